@@ -31,7 +31,7 @@ Option = collections.namedtuple("Option", "name value help")
 Command = collections.namedtuple("Command", "name about example takes options")
 
 # What stands behind an option in place of a word of one's own: a file, or one of some words.
-FILES, CHOICES = ["order-file", "report", "schedule"], {"format": ["short", "json"]}
+FILES, CHOICES = ["expect", "order-file", "refines", "report", "schedule"], {"format": ["short", "json"]}
 HELP = Option("help", None, "Prints help")
 VERSION = Option("version", None, "Prints which txc it is")
 

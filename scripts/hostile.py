@@ -121,6 +121,8 @@ def commands(txc, name, order):
     yield [txc, "listing", file]
     yield [txc, "source", file, "--threads", "2", "--order", order]
     yield [txc, "outcomes", file, "--threads", "2"]
+    yield [txc, "outcomes", file, "--threads", "2", "--refines", file]
+    yield [txc, "outcomes", file, "--threads", "2", "--expect", f"{name}.list"]
     claim = ["--order-file", f"{name}.order", "--report", f"{name}.report"]
     yield [txc, "certify", file, "--threads", "2", *claim]
     yield [txc, "replay", file, *schedule]
@@ -291,6 +293,8 @@ def main():
                     opened.write(content)
             with open(f"{name}.report", "wb") as report:
                 report.write(run([txc, "source", f"{name}.c", "--threads", "2", "--order", order]).stdout)
+            with open(f"{name}.list", "wb") as listed:
+                listed.write(run([txc, "outcomes", f"{name}.c", "--threads", "2"]).stdout)
         for part in (refuse_growths, fill_output, close_output, odd_files, shrinking_file, many_frames, little_space):
             part(txc)
         os.chdir(TOP)

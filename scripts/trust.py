@@ -37,6 +37,8 @@ PROMISES = (
     ("`txc source`", "PrintsReport RunsInOrder"),
     ("`txc certify`", "CertifiesReport"),
     ("`txc outcomes`", "PrintsOutcomes"),
+    ("`txc outcomes --always`, `--final`", "AnswersQuestions"),
+    ("`txc outcomes --refines`, `--expect`", "ComparesOutcomes"),
     ("`txc replay`, by the source alone", "PrintsReport RunsInSomeOrder behind_events"),
     ("`txc replay`, all", "PrintsReport RunsInSomeOrder behind_events Replays"),
     ("`txc replay --timeline`", "PrintsTimeline RunsInSomeOrder behind_events ReplaysShown"),
@@ -52,7 +54,10 @@ PROMISES = (
 )
 
 # What of them is said by the source, with the code that `listing` prints and that means it; the rest speaks of the machine.
-BY_SOURCE = "SaysAccepted PrintsListing PrintsReport RunsInSomeOrder CertifiesReport PrintsOutcomes IsRefused"
+BY_SOURCE = (
+    "SaysAccepted PrintsListing PrintsReport RunsInSomeOrder CertifiesReport PrintsOutcomes AnswersQuestions"
+    " ComparesOutcomes IsRefused"
+)
 
 
 @functools.lru_cache(maxsize=None)

@@ -3,8 +3,8 @@ _txc() {
     local word=${COMP_WORDS[COMP_CWORD]} words=
     case ${COMP_WORDS[COMP_CWORD - 1]} in
         --format) words='short json' ;;
-        --order-file | --report | --schedule) ;;
-        --budget | --from | --limit | --memory | --order | --seed | --steps | --threads | --ticks) return ;;
+        --expect | --order-file | --refines | --report | --schedule) ;;
+        --always | --budget | --final | --from | --limit | --memory | --order | --seed | --steps | --threads | --ticks) return ;;
         *)
             if ((COMP_CWORD == 1)); then
                 words='check listing run replay source outcomes certify explain --help --version'
@@ -15,7 +15,7 @@ _txc() {
                     run) words='--verbose --format --threads --budget --counts --memory --help' ;;
                     replay) words='--verbose --format --threads --schedule --seed --steps --order --timeline --picture --from --print-schedule --help' ;;
                     source) words='--verbose --format --threads --order --ticks --help' ;;
-                    outcomes) words='--verbose --format --threads --steps --limit --memory --help' ;;
+                    outcomes) words='--verbose --format --threads --steps --limit --memory --refines --expect --always --final --help' ;;
                     certify) words='--verbose --format --threads --order-file --report --ticks --help' ;;
                     explain) words='--help' ;;
                 esac

@@ -1,16 +1,21 @@
 -- What words ask.
 use Rattle.std.specs.Prelude.{◌≡◌, ◌≢◌, ◌⊎◌, ◌↔◌, ◌≤◌, ◌<◌, ◌==◌, ℕ, Bool, true, false, IsTrue, IsSomeAnd, List, []}
-use Rattle.std.specs.Prelude.{◌∷◌, ◌||◌, Option, Some, None, codes, filter, length, not, string_bytes}
+use Rattle.std.specs.Prelude.{◌∷◌, ◌||◌, Option, Some, None, codes, filter, is_some, length, not, option_map}
+use Rattle.std.specs.Prelude.{string_bytes}
 use Rattle.std.specs.List.{slice_split}
 use Rattle.std.specs.Str.Parse.{IsNumeral, digits_value, without_leading_plus}
 use Rattle.clap.specs.Words.{IsAmong, Row, Text, fault_of, first_of, one_of, subcommand_of}
 use Rattle.clap.specs.declared.error.kind.ErrorKind.{ErrorKind}
 use Rattle.clap.specs.declared.error.kind.ErrorKind.TheVariants.{DisplayHelp, DisplayVersion}
+use Rattle.command.specs.declared.request.Against.{Against}
+use Rattle.command.specs.declared.request.Against.TheVariants.{Refined, Expected}
 use Rattle.command.specs.declared.request.Claim.{Claim}
+use Rattle.command.specs.declared.request.Comparison.{Comparison}
 use Rattle.command.specs.declared.request.Format.{Format}
 use Rattle.command.specs.declared.request.Format.TheVariants.{Plain, Short, Json}
 use Rattle.command.specs.declared.request.Request.{Request}
-use Rattle.command.specs.declared.request.Request.TheVariants.{Program, Certify, Explain, ExplainEnd}
+use Rattle.command.specs.declared.request.Request.TheVariants.{Program, Certify, Compare, Ask, Explain, ExplainEnd}
+use Rattle.command.specs.declared.request.Questions.{Questions}
 use Rattle.command.specs.declared.request.Task.{Task}
 use Rattle.command.specs.declared.request.Task.TheVariants.{Check, Listing, Run, Replay, Timeline, Picture}
 use Rattle.command.specs.declared.request.Task.TheVariants.{PrintOrder, PrintSchedule, Source, Outcomes}
@@ -128,6 +133,10 @@ pub record AreFlagged (given : List Row) (timeline picture print_schedule : Bool
   pub picture_is : IsTrue picture ↔ IsFlagged given (codes "picture")
   pub print_schedule_is : IsTrue print_schedule ↔ IsFlagged given (codes "print-schedule")
 
+-- outcomes are compared with nothing
+abbrev pub AreUncompared : List Row → Type 0
+AreUncompared given = (first_of (codes "refines") given ≡ None) × (first_of (codes "expect") given ≡ None)
+
 -- the first access that is drawn; where none is said, all is drawn from the beginning
 abbrev pub IsFirstDrawn : List Row → ℕ → Type 0
 IsFirstDrawn given n = IsNumberInRange given (codes "from") 0 0 1048576 n
@@ -136,8 +145,11 @@ IsFirstDrawn given n = IsNumberInRange given (codes "from") 0 0 1048576 n
 abbrev pub NoFirstDrawn : List Row → Type 0
 NoFirstDrawn given = first_of (codes "from") given ≡ None
 
--- what is done with a program
+-- functions are asked whether they hold
+abbrev pub are_asked : List Row → Bool
+are_asked given = is_some (first_of (codes "always") given) || is_some (first_of (codes "final") given)
 
+-- what is done with a program whose outcomes are compared with nothing, and of which no function is asked
 abbrev pub IsTask : Text → List Row → Task → Type 0
 IsTask name given (Check warns all) = (name ≡ codes "check") × (IsTrue warns ↔ IsFlagged given (codes "warn"))
     × (IsTrue all ↔ IsFlagged given (codes "all"))
@@ -163,7 +175,16 @@ IsTask name given (Source threads order ticks) = (name ≡ codes "source") × Ar
 IsTask name given (Outcomes threads steps limit memory) = (name ≡ codes "outcomes") × AreThreadsGiven given threads
     × IsNumberInRange given (codes "steps") 1000000 0 4294967295 steps
     × IsNumberInRange given (codes "limit") 1000000 0 4294967295 limit
-    × IsNumberInRange given (codes "memory") 1024 0 4294967295 memory
+    × IsNumberInRange given (codes "memory") 1024 0 4294967295 memory × AreUncompared given × (are_asked given ≡ false)
+
+-- what is asked: functions that are to hold in every state, and those that are to hold in every outcome
+pub record AreQuestions (given : List Row) (questions : Questions) : Type 0 where
+  pub threads : AreThreadsGiven given questions.threads
+  pub steps : IsNumberInRange given (codes "steps") 1000000 0 4294967295 questions.steps
+  pub limit : IsNumberInRange given (codes "limit") 1000000 0 4294967295 questions.limit
+  pub memory : IsNumberInRange given (codes "memory") 1024 0 4294967295 questions.memory
+  pub always : option_map string_bytes questions.always ≡ first_of (codes "always") given
+  pub last : option_map string_bytes questions.last ≡ first_of (codes "final") given
 
 -- a file of an order, and one of a report; at most one of these and the source is standard input
 pub record AreClaimFiles (given : List Row) (order report : Text) : Type 0 where
@@ -178,6 +199,25 @@ pub record IsClaim (given : List Row) (claim : Claim) : Type 0 where
   pub threads : AreThreadsGiven given claim.threads
   pub files : AreClaimFiles given (string_bytes claim.order) (string_bytes claim.report)
   pub ticks : IsNumberInRange given (codes "ticks") 4294967295 0 4294967295 claim.ticks
+
+-- a file is given for one of two arguments, and none for the other; it and the source are not both standard input
+pub record IsGivenAlone (given : List Row) (id other file : Text) : Type 0 where
+  pub named : first_of id given ≡ Some file
+  pub alone : first_of other given ≡ None
+  pub not_both : IsNotBoth given file
+
+-- with what outcomes are compared
+abbrev pub IsAgainst : List Row → Against → Type 0
+IsAgainst given (Refined file) = IsGivenAlone given (codes "refines") (codes "expect") (string_bytes file)
+IsAgainst given (Expected file) = IsGivenAlone given (codes "expect") (codes "refines") (string_bytes file)
+
+-- how outcomes are compared
+pub record IsComparison (given : List Row) (comparison : Comparison) : Type 0 where
+  pub threads : AreThreadsGiven given comparison.threads
+  pub steps : IsNumberInRange given (codes "steps") 1000000 0 4294967295 comparison.steps
+  pub limit : IsNumberInRange given (codes "limit") 1000000 0 4294967295 comparison.limit
+  pub memory : IsNumberInRange given (codes "memory") 1024 0 4294967295 comparison.memory
+  pub against : IsAgainst given comparison.against
 
 -- how faults are to be told, by what is given for `--format`
 abbrev pub IsFormat : Option Text → Format → Type 0
@@ -194,6 +234,14 @@ IsRequest name given (Certify file verbose format claim) =
     (first_of (codes "FILE") given ≡ Some (string_bytes file))
     × (IsTrue verbose ↔ IsFlagged given (codes "verbose")) × IsFormat (first_of (codes "format") given) format
     × (name ≡ codes "certify") × IsClaim given claim
+IsRequest name given (Compare file verbose format comparison) =
+    (first_of (codes "FILE") given ≡ Some (string_bytes file))
+    × (IsTrue verbose ↔ IsFlagged given (codes "verbose")) × IsFormat (first_of (codes "format") given) format
+    × (name ≡ codes "outcomes") × (are_asked given ≡ false) × IsComparison given comparison
+IsRequest name given (Ask file verbose format questions) =
+    (first_of (codes "FILE") given ≡ Some (string_bytes file))
+    × (IsTrue verbose ↔ IsFlagged given (codes "verbose")) × IsFormat (first_of (codes "format") given) format
+    × (name ≡ codes "outcomes") × AreUncompared given × (are_asked given ≡ true) × AreQuestions given questions
 IsRequest name given (Explain number) =
     (name ≡ codes "explain") × IsGiven given (codes "NN") number × (one_of (codes "N") given ≡ None)
 IsRequest name given (ExplainEnd word number) = (name ≡ codes "explain")

@@ -67,11 +67,16 @@ source_app =
     let threads = with_rule (file_app (codes "source")) (text_rule (codes "threads")) in
     with_rule (with_rule threads order_rule) (text_rule (codes "ticks"))
 
+abbrev pub outcome_states_app : App
+outcome_states_app =
+    let threads = with_rule (file_app (codes "outcomes")) (text_rule (codes "threads")) in
+    let limits = with_rule (with_rule threads (text_rule (codes "steps"))) (text_rule (codes "limit")) in
+    let memory = with_rule limits (text_rule (codes "memory")) in
+    with_rule (with_rule memory (text_rule (codes "refines"))) (text_rule (codes "expect"))
+
 abbrev pub outcomes_app : App
 outcomes_app =
-    let threads = with_rule (file_app (codes "outcomes")) (text_rule (codes "threads")) in
-    let limit = with_rule (with_rule threads (text_rule (codes "steps"))) (text_rule (codes "limit")) in
-    with_rule limit (text_rule (codes "memory"))
+    with_rule (with_rule outcome_states_app (text_rule (codes "always"))) (text_rule (codes "final"))
 
 abbrev pub certify_app : App
 certify_app =

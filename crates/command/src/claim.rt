@@ -13,7 +13,7 @@ use clap::ArgMatches;
 use std::alloc::Global;
 
 /// The file that is given for an argument, where the source isn't standard input too.
-fn file_given(
+pub(crate) fn file_given(
     alloc: Global,
     given: &ArgMatches<'_>,
     id: &str,

@@ -2,14 +2,18 @@
 #![tactic(auto)]
 
 mod claim;
+mod comparison;
 mod given;
 mod line;
 mod listed;
 mod order;
+mod questions;
 mod read;
 mod request;
 mod task;
 
 pub use listed::listed_order;
 pub use read::command;
-pub use request::{Claim, Format, Request, Steps, Task, UsageFault};
+pub use request::{
+    Against, Claim, Comparison, Format, Questions, Request, Steps, Task, UsageFault,
+};

@@ -5,7 +5,8 @@ ghost use Rattle.clap.specs.Words.{App, Rule, app_of, new_app, rule_of, with_rul
 ghost use Rattle.command.specs.inner.Made.{IsMade};
 ghost use Rattle.command.specs.Line.{file_rule, flag_rule, fault_rule, text_rule, wanted_rule, order_rule, file_app};
 ghost use Rattle.command.specs.Line.{check_app, listing_app, run_app, replay_steps_app, replay_app, source_app};
-ghost use Rattle.command.specs.Line.{outcomes_app, certify_app, trap_rule, explain_app, commandless_app, program_app};
+ghost use Rattle.command.specs.Line.{outcome_states_app, outcomes_app, certify_app, explain_app, commandless_app};
+ghost use Rattle.command.specs.Line.{program_app, trap_rule};
 
 use clap::{Arg, ArgAction, Command};
 use std::alloc::{AllocError, Global};
@@ -110,7 +111,7 @@ fn verbose<'a>(alloc: Global) -> Arg<'a>
     flag(
         alloc,
         "verbose",
-        "Shows the line of a fault, and says why a file can't be read",
+        "Shows the line of a fault and where threads stand that trapped or go no further, and says why a file can't be read",
     )
 }
 
@@ -318,9 +319,9 @@ fn ticks<'a>(alloc: Global) -> Arg<'a>
     )
 }
 
-/// The command that lists the outcomes of all orders.
-fn outcomes<'a>(alloc: Global) -> Result<Command<'a>, AllocError>
-    ensures { IfOk result (IsMade outcomes_app) }
+/// The command that lists the outcomes of all orders, with how many states it looks at.
+fn outcome_states<'a>(alloc: Global) -> Result<Command<'a>, AllocError>
+    ensures { IfOk result (IsMade outcome_states_app) }
 {
     let command = of_file(
         alloc,
@@ -349,7 +350,42 @@ fn outcomes<'a>(alloc: Global) -> Result<Command<'a>, AllocError>
         "MB",
         "How much memory states and list take before it stops: 0 to 4294967295 MB, and 1024 if not given",
     );
-    with(command, memory)
+    let command = with(command, memory);
+    let refines = text(
+        alloc,
+        "refines",
+        "B",
+        "Another C source: says whether each outcome of FILE is one of its, by texts, ends and globals, and else the first that is none",
+    );
+    let command = with(command, refines);
+    let expect = text(
+        alloc,
+        "expect",
+        "LIST",
+        "A file with a list of outcomes: says whether that of FILE is the same, byte for byte, and else where it differs",
+    );
+    with(command, expect)
+}
+
+/// The command that lists the outcomes of all orders.
+fn outcomes<'a>(alloc: Global) -> Result<Command<'a>, AllocError>
+    ensures { IfOk result (IsMade outcomes_app) }
+{
+    let command = outcome_states(alloc);
+    let always = text(
+        alloc,
+        "always",
+        "NAMES",
+        "Asks in place of the list whether functions `int NAME(void)` of the file hold in every state: names joined by commas",
+    );
+    let command = with(command, always);
+    let last = text(
+        alloc,
+        "final",
+        "NAMES",
+        "Asks likewise whether functions hold in every outcome",
+    );
+    with(command, last)
 }
 
 /// The command that certifies a report.

@@ -8,8 +8,10 @@ ghost use Rattle.command.specs.Asked.{Requests, IsFormat, IsGiven, IsNoNumber, I
 ghost use Rattle.command.specs.inner.Refusals.{AreNoRequest, IsOwn, HasGiven, SaysError};
 
 use crate::claim::claim;
+use crate::comparison::{compares, comparison};
 use crate::given::{NoNumber, flag_given, read_number, text_given, text_wanted, wrong};
 use crate::line::program;
+use crate::questions::{asks, questions};
 use crate::request::{Format, Request, UsageFault};
 use crate::task::task;
 use clap::error::ErrorKind;
@@ -127,6 +129,25 @@ fn request_of(alloc: Global, name: &str, given: &ArgMatches<'_>) -> Result<Reque
             verbose,
             format,
             claim: claim(alloc, given)?,
+        });
+    }
+    if compares(name, given) {
+        if asks(name, given) {
+            return Err(wrong(alloc, "--always and --final want no list to compare"));
+        }
+        return Ok(Request::Compare {
+            file,
+            verbose,
+            format,
+            comparison: comparison(alloc, given)?,
+        });
+    }
+    if asks(name, given) {
+        return Ok(Request::Ask {
+            file,
+            verbose,
+            format,
+            questions: questions(alloc, given)?,
         });
     }
     Ok(Request::Program {

@@ -24,6 +24,22 @@ pub enum Request {
         format: Format,
         claim: Claim,
     },
+    /// Compares the outcomes of the program in a file with those of another program, or with a list of them.
+    Compare {
+        file: String,
+        /// Whether more is told of a fault than its line.
+        verbose: bool,
+        format: Format,
+        comparison: Comparison,
+    },
+    /// Asks whether functions of the program in a file hold whatever order its threads take.
+    Ask {
+        file: String,
+        /// Whether more is told of a fault than its line.
+        verbose: bool,
+        format: Format,
+        questions: Questions,
+    },
     /// Tells what the fault of a number means.
     Explain {
         number: u32,
@@ -46,6 +62,42 @@ pub struct Claim {
     /// The file of the report.
     pub report: String,
     pub ticks: u32,
+}
+
+/// With what the outcomes of 1 to 64 threads of a program are compared. Those of each program are found over at most so
+/// many states, and in a turn a thread makes at most so many steps of its code.
+#[derive(Debug, Drop)]
+pub struct Comparison {
+    pub threads: u32,
+    pub steps: u32,
+    pub limit: u32,
+    /// How many MB states and list take at most.
+    pub memory: u32,
+    pub against: Against,
+}
+
+/// With what outcomes are compared.
+#[derive(Debug, Drop)]
+pub enum Against {
+    /// With those of the program in this file: each is to be one of these.
+    Refined { file: String },
+    /// With the list in this file: theirs is to be the same.
+    Expected { file: String },
+}
+
+/// Which functions are to hold in the states that 1 to 64 threads come to, over at most so many states. In a turn a thread
+/// makes at most so many steps of its code, and a function takes at most so many ticks.
+#[derive(Debug, Drop)]
+pub struct Questions {
+    pub threads: u32,
+    pub steps: u32,
+    pub limit: u32,
+    /// How many MB states and list take at most.
+    pub memory: u32,
+    /// Functions that are to hold in every state: their names, joined by commas.
+    pub always: Option<String>,
+    /// Functions that are to hold in every outcome.
+    pub last: Option<String>,
 }
 
 /// How the fault of a source is told.

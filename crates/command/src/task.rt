@@ -1,9 +1,9 @@
 //! What a command does with a program.
 
-ghost use Rattle.std.specs.Prelude.{◌≡◌, ◌≤◌, ◌↔◌, ℕ, List, IfOk, IfErr, IsTrue, Some, None, codes, string_bytes};
+ghost use Rattle.std.specs.Prelude.{◌≡◌, ◌≤◌, ◌↔◌, ℕ, List, IfOk, IfErr, IsTrue, Some, None, codes, false, string_bytes};
 ghost use Rattle.clap.specs.Words.{first_of, found_of, rows_of};
 ghost use Rattle.command.specs.Asked.{AreCounted, AreScheduled, AreSteps, AreThreadsGiven, IsNotBoth, IsNumberInRange};
-ghost use Rattle.command.specs.Asked.{IsFirstDrawn, IsOrderGiven, IsTask};
+ghost use Rattle.command.specs.Asked.{AreUncompared, IsFirstDrawn, IsOrderGiven, IsTask, are_asked};
 ghost use Rattle.command.specs.declared.request.Steps.{Steps};
 ghost use Rattle.command.specs.inner.Refusals.{AreNoTask, IsOutOfRange, IsOwn};
 
@@ -179,7 +179,7 @@ fn replay(alloc: Global, given: &ArgMatches<'_>) -> Result<Task, UsageFault>
                 count,
             }),
             Steps::Order { order } => Ok(Task::PrintOrder { threads, order }),
-            Steps::Schedule { .. } => Err(wrong(alloc, "--print-schedule wants --seed")),
+            Steps::Schedule { .. } => Err(wrong(alloc, "--print-schedule wants --seed or --order")),
         },
         (_, false, _, Some(_)) => Err(wrong(alloc, "--from wants --picture")),
         _ => Err(wrong(alloc, "one of --picture, --print-schedule and --timeline")),
@@ -200,8 +200,10 @@ fn source(alloc: Global, given: &ArgMatches<'_>) -> Result<Task, UsageFault>
     })
 }
 
-/// The outcomes of all orders.
+/// The outcomes of all orders, where they are compared with nothing and no function is asked.
 fn outcomes(alloc: Global, given: &ArgMatches<'_>) -> Result<Task, UsageFault>
+    requires alone { AreUncompared (rows_of (found_of given.now)) }
+    requires unasked { are_asked (rows_of (found_of given.now)) ≡ false }
     ensures ok { IfOk result (IsTask (codes "outcomes") (rows_of (found_of given.now))) }
     ensures err { IfErr result (IsOwn (AreNoTask (codes "outcomes") (rows_of (found_of given.now)))) }
 {
@@ -213,8 +215,10 @@ fn outcomes(alloc: Global, given: &ArgMatches<'_>) -> Result<Task, UsageFault>
     })
 }
 
-/// What a command over a file does.
+/// What a command over a file does, where it compares no outcomes and asks no function.
 pub(crate) fn task(alloc: Global, name: &str, given: &ArgMatches<'_>) -> Result<Task, UsageFault>
+    requires alone { name.now ≡ codes "outcomes" → AreUncompared (rows_of (found_of given.now)) }
+    requires unasked { name.now ≡ codes "outcomes" → are_asked (rows_of (found_of given.now)) ≡ false }
     ensures ok { IfOk result (IsTask name.now (rows_of (found_of given.now))) }
     ensures err { IfErr result (IsOwn (AreNoTask name.now (rows_of (found_of given.now)))) }
 {

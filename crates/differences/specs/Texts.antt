@@ -1,4 +1,4 @@
--- The first line in which a report differs from the one that is due.
+-- The first line in which a text differs from the one that is due.
 use Rattle.std.specs.Prelude.{◌≡◌, ◌≢◌, ◌==◌, ◌++◌, ◌+◌, ℕ, List, Option, None, Some, codes, decimal, slice_get, take}
 use Rattle.std.specs.List.{slice_split}
 
@@ -20,10 +20,10 @@ abbrev pub side_text : (name : List ℕ) → Option (List ℕ) → List ℕ
 side_text name (Some line) = name ++ codes ": " ++ line ++ codes "\n"
 side_text name None = name ++ codes " ends\n"
 
--- the number of a line, counted from 1, and the line on each side
-abbrev pub sides_text : (due found : List (List ℕ)) → ℕ → List ℕ
-sides_text due found at = codes "line " ++ decimal (at + 1) ++ codes " differs\n"
-    ++ side_text (codes "source") (slice_get due at) ++ side_text (codes "report") (slice_get found at)
+-- the number of a line, counted from 1, and the line on each side, behind its name
+abbrev pub sides_text : (name other : List ℕ) → (due found : List (List ℕ)) → ℕ → List ℕ
+sides_text name other due found at = codes "line " ++ decimal (at + 1) ++ codes " differs\n"
+    ++ side_text name (slice_get due at) ++ side_text other (slice_get found at)
 
-abbrev pub difference_text : (due found : List ℕ) → ℕ → List ℕ
-difference_text due found at = sides_text (text_lines due) (text_lines found) at
+abbrev pub difference_text : (name other : List ℕ) → (due found : List ℕ) → ℕ → List ℕ
+difference_text name other due found at = sides_text name other (text_lines due) (text_lines found) at

@@ -1,4 +1,4 @@
-//! The first line in which a report differs from the one that is due, as it is told.
+//! The first line in which a text differs from the one that is due, as it is told.
 #![tactic(auto)]
 
 ghost use Rattle.std.specs.Prelude.{◌≡◌, ◌≢◌, ◌≤◌, ◌++◌, ℕ, false, true, IfOk, IfSome, MatchOption, OnOk, decimal, length, map, option_map};
@@ -9,22 +9,31 @@ ghost use Rattle.differences.specs.Texts as spec;
 use itoa::Buffer;
 use std::alloc::{AllocError, Allocator};
 
-/// The first line in which a report differs from the one that is due, if there is one: its number, counted from 1, and
-/// the line of each, or that it ends before. A line ends at its LF, and nowhere else.
+/// The first line in which a text differs from the one that is due, if there is one: its number, counted from 1, and the
+/// line of each behind the name of that, or that it ends before. A line ends at its LF, and nowhere else.
 pub fn difference<A: Allocator + Copy>(
     alloc: A,
+    name: &[u8],
     due: &[u8],
+    other: &[u8],
     found: &[u8],
 ) -> Result<Option<Vec<u8, A>>, AllocError>
     ensures { IfOk result (λ o. MatchOption o (found.now ≡ due.now)
         (λ v. (at : ℕ) × IsFirstDifference due.now found.now at
-        × (v.items ≡ spec.difference_text due.now found.now at))) }
+        × (v.items ≡ spec.difference_text name.now other.now due.now found.now at))) }
 {
     let due_lines = lines_of(alloc, due)?;
     let found_lines = lines_of(alloc, found)?;
     match first_difference(due_lines.as_slice(), found_lines.as_slice()) {
         Some(at) => {
-            let text = sides(alloc, due_lines.as_slice(), found_lines.as_slice(), at)?;
+            let text = sides(
+                alloc,
+                name,
+                due_lines.as_slice(),
+                other,
+                found_lines.as_slice(),
+                at,
+            )?;
             Ok(Some(text))
         }
         None => Ok(None),
@@ -68,20 +77,22 @@ fn first_difference(due: &[&[u8]], found: &[&[u8]]) -> Option<usize>
 /// What is told of a line that is not the same.
 fn sides<A: Allocator>(
     alloc: A,
+    name: &[u8],
     due: &[&[u8]],
+    other: &[u8],
     found: &[&[u8]],
     at: usize,
 ) -> Result<Vec<u8, A>, AllocError>
     requires { at ≤ length due.now }
     ensures { IfOk result
-        (λ v. v.items ≡ sides_text (map (λ l. l.now) due.now) (map (λ l. l.now) found.now) at) }
+        (λ v. v.items ≡ sides_text name.now other.now (map (λ l. l.now) due.now) (map (λ l. l.now) found.now) at) }
 {
     let mut text = Vec::new(alloc);
     push_bytes(&mut text, b"line ")?;
     push_number(&mut text, at as u64 + 1)?;
     push_bytes(&mut text, b" differs\n")?;
-    push_side(&mut text, b"source", due.get(at))?;
-    push_side(&mut text, b"report", found.get(at))?;
+    push_side(&mut text, name, due.get(at))?;
+    push_side(&mut text, other, found.get(at))?;
     Ok(text)
 }
 

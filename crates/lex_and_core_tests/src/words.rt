@@ -464,7 +464,7 @@ fn refused_replays() -> &'static [Row] {
         ),
         (
             "txc|replay|a.c|--print-schedule|--schedule=s",
-            br#"Err(Wrong { text: "txc: usage: --print-schedule wants --seed\n" })"#,
+            br#"Err(Wrong { text: "txc: usage: --print-schedule wants --seed or --order\n" })"#,
         ),
         (
             "txc|replay|a.c|--steps=5",
@@ -636,6 +636,96 @@ fn reads_claims(rt: HostRuntime) {
     assert_none(&rt, ask_otherwise(rt.alloc(), claims()));
 }
 
+/// Comparisons of outcomes.
+fn comparisons() -> &'static [Row] {
+    static ROWS: [Row; 10] = [
+        (
+            "txc|outcomes|a.c|--refines|b.c",
+            br#"Ok(Compare { file: "a.c", verbose: false, format: Plain, comparison: Comparison { threads: 1, steps: 1000000, limit: 1000000, memory: 1024, against: Refined { file: "b.c" } } })"#,
+        ),
+        (
+            "txc|outcomes|--expect=l|--threads=64|--steps=0|--limit=4294967295|a.c|--verbose|--format=short",
+            br#"Ok(Compare { file: "a.c", verbose: true, format: Short, comparison: Comparison { threads: 64, steps: 0, limit: 4294967295, memory: 1024, against: Expected { file: "l" } } })"#,
+        ),
+        // one of the files is standard input
+        (
+            "txc|outcomes|-|--refines=b.c|--threads=2",
+            br#"Ok(Compare { file: "-", verbose: false, format: Plain, comparison: Comparison { threads: 2, steps: 1000000, limit: 1000000, memory: 1024, against: Refined { file: "b.c" } } })"#,
+        ),
+        (
+            "txc|outcomes|a.c|--expect=-|--limit=7",
+            br#"Ok(Compare { file: "a.c", verbose: false, format: Plain, comparison: Comparison { threads: 1, steps: 1000000, limit: 7, memory: 1024, against: Expected { file: "-" } } })"#,
+        ),
+        // and not both
+        (
+            "txc|outcomes|-|--refines=-",
+            br#"Err(Wrong { text: "txc: usage: FILE and B can't both be -\n" })"#,
+        ),
+        (
+            "txc|outcomes|-|--expect=-",
+            br#"Err(Wrong { text: "txc: usage: FILE and LIST can't both be -\n" })"#,
+        ),
+        (
+            "txc|outcomes|a.c|--refines=b.c|--expect=l",
+            br#"Err(Wrong { text: "txc: usage: one of --refines and --expect\n" })"#,
+        ),
+        (
+            "txc|outcomes|a.c|--refines=b.c|--threads=65",
+            br#"Err(Wrong { text: "txc: usage: --threads is 1 to 64\n" })"#,
+        ),
+        (
+            "txc|outcomes|a.c|--expect=l|--steps=4294967296",
+            br#"Err(Wrong { text: "txc: usage: --steps is 0 to 4294967295\n" })"#,
+        ),
+        (
+            "txc|outcomes|a.c|--refines=b.c|--always=p",
+            br#"Err(Wrong { text: "txc: usage: --always and --final want no list to compare\n" })"#,
+        ),
+    ];
+    &ROWS
+}
+
+#[test]
+fn reads_comparisons(rt: HostRuntime) {
+    assert_none(&rt, ask_otherwise(rt.alloc(), comparisons()));
+}
+
+/// Functions that are asked whether they hold.
+fn questions() -> &'static [Row] {
+    static ROWS: [Row; 6] = [
+        (
+            "txc|outcomes|a.c|--always|p",
+            br#"Ok(Ask { file: "a.c", verbose: false, format: Plain, questions: Questions { threads: 1, steps: 1000000, limit: 1000000, memory: 1024, always: Some("p"), last: None } })"#,
+        ),
+        (
+            "txc|outcomes|--final=p,q|--threads=3|--steps=0|--limit=7|a.c|--verbose|--format=json",
+            br#"Ok(Ask { file: "a.c", verbose: true, format: Json, questions: Questions { threads: 3, steps: 0, limit: 7, memory: 1024, always: None, last: Some("p,q") } })"#,
+        ),
+        (
+            "txc|outcomes|-|--final=|--always=p,p",
+            br#"Ok(Ask { file: "-", verbose: false, format: Plain, questions: Questions { threads: 1, steps: 1000000, limit: 1000000, memory: 1024, always: Some("p,p"), last: Some("") } })"#,
+        ),
+        (
+            "txc|outcomes|a.c|--limit=9",
+            br#"Ok(Program { file: "a.c", verbose: false, format: Plain, task: Outcomes { threads: 1, steps: 1000000, limit: 9, memory: 1024 } })"#,
+        ),
+        (
+            "txc|outcomes|a.c|--always=p|--threads=65",
+            br#"Err(Wrong { text: "txc: usage: --threads is 1 to 64\n" })"#,
+        ),
+        (
+            "txc|outcomes|a.c|--final=p|--limit=x",
+            br#"Err(Wrong { text: "txc: usage: --limit is 0 to 4294967295\n" })"#,
+        ),
+    ];
+    &ROWS
+}
+
+#[test]
+fn reads_questions(rt: HostRuntime) {
+    assert_none(&rt, ask_otherwise(rt.alloc(), questions()));
+}
+
 /// Whether what a line asks begins with this and has this piece.
 fn has(alloc: Global, line: &str, begin: &str, piece: &str) -> bool {
     match request_of_line(alloc, line) {
@@ -661,9 +751,14 @@ fn have_not(
 
 /// What is no command line of the program.
 fn wrong_lines() -> &'static [&'static str] {
-    static LINES: [&str; 15] = [
+    static LINES: [&str; 20] = [
         "txc",
         "txc|outcomes",
+        "txc|run|a.c|--refines=b.c",
+        "txc|outcomes|a.c|--refines",
+        "txc|outcomes|a.c|--always",
+        "txc|outcomes|a.c|--always=p|--always=q",
+        "txc|run|a.c|--always=p",
         "txc|outcomes|a.c|--order=0",
         "txc|run|--budget|-1|a.c",
         "txc|listing|--threads=2|a.c",

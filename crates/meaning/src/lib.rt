@@ -5,6 +5,7 @@
 #![tactic(auto)]
 
 mod arithmetic;
+mod asked;
 mod calls;
 mod expr;
 pub mod laws;
@@ -27,6 +28,7 @@ mod threads;
 mod transactions;
 mod word;
 
+pub use asked::{AskedProgram, Reply, asked_program};
 pub use orders::{last_memory, run_order, wants};
 pub use outcome::{
     HaltPlace, MeaningFault, SourceOutcome, ThreadEnd, ThreadOutcome, ThreadReport, TrapCause,

@@ -2,8 +2,9 @@
 
 use crate::beside::hints;
 use crate::editors::Fault;
+use crate::lines::push_place;
 use crate::table::words;
-use crate::warnings::warning_words;
+use crate::warnings::{WarningWords, warning_words};
 use json::Writer;
 use lex::place;
 use lex::token::Span;
@@ -31,6 +32,21 @@ fn put_place<A: Allocator>(
     let (line, column) = place(text, offset.min(text.len()));
     put_number(to, keys.0, line as u64)?;
     put_number(to, keys.1, column as u64)
+}
+
+/// Adds the place of something else that is spoken of, as members of an object, if there is one.
+fn put_other<A: Allocator>(
+    to: &mut Writer<A>,
+    text: &str,
+    other: Option<Span>,
+) -> Result<(), AllocError> {
+    match other {
+        Some(span) => {
+            put_place(to, ("other_line", "other_column"), text, span.start)?;
+            put_place(to, ("other_end_line", "other_end_column"), text, span.end)
+        }
+        None => Ok(()),
+    }
 }
 
 /// Adds lines as a list of texts.
@@ -73,35 +89,57 @@ pub fn json_line<A: Allocator + Copy>(
     Ok(line)
 }
 
-/// Adds a warning as an object, with what may be done.
+/// What is told beside a warning, in lines: where the other thing stands that it speaks of, and what may be done.
+fn notes_of<A: Allocator + Copy>(
+    alloc: A,
+    text: &str,
+    other: Option<Span>,
+    words: WarningWords,
+) -> Result<String<A>, AllocError> {
+    let mut notes = String::new(alloc);
+    if let Some(span) = other {
+        notes.push_str(words.besides)?;
+        push_place(alloc, &mut notes, text, span.start)?;
+        notes.push('\n')?;
+    }
+    notes.push_str(words.advice)?;
+    Ok(notes)
+}
+
+/// Adds a warning as an object, with the other place that it speaks of and the lines that are told beside it.
 fn put_warning<A: Allocator>(
     to: &mut Writer<A>,
     file: &str,
     text: &str,
-    span: Span,
+    spans: (Span, Option<Span>),
     name: &str,
+    told: &str,
 ) -> Result<(), AllocError> {
-    let words = warning_words(name);
+    let (span, other) = spans;
     to.begin_object()?;
     put_text(to, "file", file)?;
     put_place(to, ("line", "column"), text, span.start)?;
     put_place(to, ("end_line", "end_column"), text, span.end)?;
     put_text(to, "warning", name)?;
-    put_text(to, "message", words.what)?;
-    put_notes(to, words.advice)?;
+    put_text(to, "message", warning_words(name).what)?;
+    put_other(to, text, other)?;
+    put_notes(to, told)?;
     to.end_object()
 }
 
-/// The warning of a name as an object of JSON, in one line, as a fault is.
+/// The warning of a name as an object of JSON, in one line, as a fault is. `other` is the other place that it speaks of,
+/// as a write that is undone speaks of a cancel.
 pub fn warning_line<A: Allocator + Copy>(
     alloc: A,
     file: &str,
     text: &str,
     span: Span,
+    other: Option<Span>,
     name: &str,
 ) -> Result<Vec<u8, A>, AllocError> {
+    let told = notes_of(alloc, text, other, warning_words(name))?;
     let mut object = Writer::new(Vec::new(alloc));
-    put_warning(&mut object, file, text, span, name)?;
+    put_warning(&mut object, file, text, (span, other), name, told.as_str())?;
     let mut line = object.into_inner();
     line.push(b'\n')?;
     Ok(line)

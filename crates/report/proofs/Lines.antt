@@ -1,5 +1,6 @@
 -- One step of a loop that adds lines to a report.
-use Rattle.std.proofs.Common.{◌≡◌, ℕ, suc, ◌+◌, ◌<◌, List, ◌∷◌, ◌++◌, map, length, drop, get_or, ap, sym, append_assoc, add-one, drop-cons}
+use Rattle.std.proofs.Common.{◌≡◌, ◌∙◌, ℕ, suc, ◌+◌, ◌<◌, List, [], ◌∷◌, ◌++◌, map, length, drop, take, get_or, ap, ap₂, sym, append_assoc, add-one, drop-cons}
+use Rattle.std.proofs.lemmas.List.{map-append, take_more}
 use Rattle.std.specs.Prelude.{flat_map}
 use Rattle.report.specs.Printed.{ThreadShown}
 use Rattle.report.specs.Report.{thread_text, threads_text}
@@ -21,3 +22,7 @@ next_thread view xs i x before now whole e h was new =
     let split = drop_here xs i x e h in
     let at_here = rw split at was in
     rw (new, append_assoc before) at_here
+
+-- one more element, which is seen as one of another list is
+pub one_more : {X Y Z : Type 0} (f : X → Z) (g : Y → Z) (xs : List X) (ys : List Y) (i : ℕ) (x : X) (y : Y) → y ≡ get_or ys i y → i < length ys → f x ≡ g y → map f xs ≡ map g (take i ys) → map f (xs ++ x ∷ []) ≡ map g (take (i + 1) ys)
+one_more f g xs ys i x y at lt same was = map-append f xs (x ∷ []) ∙ ap₂ (λ zs z. zs ++ z ∷ []) was same ∙ sym (map-append g (take i ys) (y ∷ [])) ∙ ap (map g) (ap (λ z. take i ys ++ z ∷ []) at ∙ sym (take_more ys i y lt))

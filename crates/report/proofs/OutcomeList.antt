@@ -1,5 +1,5 @@
 -- One step of a loop that adds orders to a list.
-use Rattle.std.proofs.Common.{◌≡◌, ◌∙◌, ℕ, suc, ◌+◌, ◌<◌, ◌≤◌, List, [], ◌∷◌, ◌++◌, map, length, drop, get_or, ap, ap₂, sym, append_assoc, append-nil, add-one, drop-cons, arith}
+use Rattle.std.proofs.Common.{◌≡◌, ◌∙◌, ℕ, suc, ◌+◌, ◌<◌, ◌≤◌, List, [], ◌∷◌, ◌++◌, map, length, drop, get_or, ap, sym, append_assoc, append-nil, add-one, drop-cons, arith}
 use Rattle.std.proofs.lemmas.List.{length-map}
 use Rattle.std.proofs.lemmas.Grind.{common_steps}
 use Rattle.std.specs.Prelude.{flat_map}
@@ -36,3 +36,9 @@ seven_joined before a b c d e f g one two three four five six seven first second
 pub list_is : {X Y : Type 0} (view : X → Y) (outcome stuck : Y → List ℕ) (line : ℕ → ℕ → List ℕ) (xs ys : List X) (one two three : List ℕ) → one ≡ [] ++ flat_map outcome (map view xs) → two ≡ one ++ flat_map stuck (map view ys) → three ≡ two ++ line (length xs) (length ys) → three ≡ flat_map outcome (map view xs) ++ flat_map stuck (map view ys) ++ line (length (map view xs)) (length (map view ys))
 list_is view outcome stuck line xs ys one two three first second third =
     rw (third, second, first, length-map xs view, length-map ys view) (simp append_assoc)
+
+pub three_joined : (before a b c one two three : List ℕ) → one ≡ before ++ a → two ≡ one ++ b → three ≡ two ++ c → three ≡ before ++ (a ++ b ++ c)
+three_joined before a b c one two three first second third = rw (third, second, first) (simp append_assoc)
+
+pub two_joined : (before a b one two : List ℕ) → one ≡ before ++ a → two ≡ one ++ b → two ≡ before ++ (a ++ b)
+two_joined before a b one two first second = rw (second, first) (simp append_assoc)

@@ -2,12 +2,18 @@
 pub mod Printed
 -- the text of a report
 pub mod Report
+-- the text of a report in pieces
+pub mod Pieces
 -- the text of a list of outcomes and of stuck orders
 pub mod OutcomeList
 -- the text of a timeline
 pub mod Timeline
 -- the Rust types as plain ones
 pub mod Views
+-- the text of what was found of properties
+pub mod Properties
+-- their Rust types as plain ones
+pub mod PropertyViews
 -- the orders of a set
 pub mod Listed
 -- what only private functions speak of

@@ -1,10 +1,12 @@
 //! Reports: what a run, a replay or a run of the source leaves, as text; lists of outcomes and of stuck orders, each with
-//! a report; and what is shown of each step of a replay.
+//! a report; what was found of properties; and what is shown of each step of a replay.
 #![tactic(auto)]
 
 mod each_once;
 mod outcome_list;
+mod pieces;
 mod printed;
+mod properties;
 mod push;
 mod report;
 mod report_set;
@@ -12,7 +14,9 @@ mod same;
 mod timeline;
 
 pub use outcome_list::{ReportedOrder, WalkEnd, list_text};
+pub use pieces::{Piece, ThreadSeen, pieces_of, report_pieces};
 pub use printed::{End, Printed, Shown, ThreadShown};
+pub use properties::{Finding, Property, properties_text};
 pub use report::report_text;
 pub use report_set::ReportSet;
 pub use timeline::{step_text, timeline_text};

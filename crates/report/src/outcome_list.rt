@@ -57,7 +57,7 @@ fn push_order<A: Allocator>(list: &mut Vec<u8, A>, order: &[u32]) -> Result<(), 
 }
 
 /// Adds orders, each behind these words and with its report.
-fn push_orders<A: Allocator + Copy>(
+pub(crate) fn push_orders<A: Allocator + Copy>(
     alloc: A,
     list: &mut Vec<u8, A>,
     words: &[u8],
@@ -73,7 +73,7 @@ fn push_orders<A: Allocator + Copy>(
 }
 
 /// Adds an order behind these words, and its report.
-fn push_reported<A: Allocator + Copy>(
+pub(crate) fn push_reported<A: Allocator + Copy>(
     alloc: A,
     list: &mut Vec<u8, A>,
     words: &[u8],
@@ -89,7 +89,7 @@ fn push_reported<A: Allocator + Copy>(
 }
 
 /// Adds the end of the last line: at what a walk was stopped, where there may be more.
-fn push_stop<A: Allocator>(list: &mut Vec<u8, A>, end: WalkEnd) -> Result<(), AllocError>
+pub(crate) fn push_stop<A: Allocator>(list: &mut Vec<u8, A>, end: WalkEnd) -> Result<(), AllocError>
     ensures { OnOk result (list.new.items ≡ list.old.items ++ stop_words end) }
 {
     match end {

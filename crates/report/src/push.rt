@@ -58,7 +58,7 @@ pub(crate) fn push_end<A: Allocator>(report: &mut Vec<u8, A>, end: End) -> Resul
 }
 
 /// Whether a text is in the middle of a line.
-fn is_open(text: &[u8]) -> bool
+pub(crate) fn is_open(text: &[u8]) -> bool
     ensures { result ≡ is_open text.now }
 {
     match text.last() {

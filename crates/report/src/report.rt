@@ -11,7 +11,7 @@ use machine::Event;
 use std::alloc::{AllocError, Allocator};
 
 /// Adds the lines of events.
-fn push_events<A: Allocator>(
+pub(crate) fn push_events<A: Allocator>(
     report: &mut Vec<u8, A>,
     events: &[(u64, u32, Event)],
 ) -> Result<(), AllocError>
@@ -76,7 +76,7 @@ fn push_held<A: Allocator>(report: &mut Vec<u8, A>, thread: u32) -> Result<(), A
 }
 
 /// Adds the globals, or the thread that holds the lock.
-fn push_memory<A: Allocator>(
+pub(crate) fn push_memory<A: Allocator>(
     report: &mut Vec<u8, A>,
     holder: Option<u32>,
     globals: &[Shown<A>],

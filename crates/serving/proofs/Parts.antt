@@ -1,9 +1,11 @@
 -- Beginnings of texts that are written.
-use Rattle.std.proofs.Common.{◌∙◌, ◌+◌, ◌-◌, ◌≤◌, arith, ℕ, List, Option, None, Some, length, take, drop, inl, inr, ap, subst, sym}
-use Rattle.std.proofs.Math.Seq.{take-add}
-use Rattle.std.proofs.lemmas.List.{length-drop, take_rest}
+use Rattle.std.proofs.Common.{◌≡◌, ◌∙◌, ◌+◌, ◌-◌, ◌<◌, ◌≤◌, ◌++◌, ◌∷◌, [], arith, ℕ, List, Option, None, Some, length, take, drop, get_or, inl, inr, ap, subst, sym, append_assoc, append-nil}
+use Rattle.std.specs.Prelude.{flat_map}
+use Rattle.std.proofs.Math.Seq.{take-add, take-append_seam}
+use Rattle.std.proofs.lemmas.Grind.{flat_map-append}
+use Rattle.std.proofs.lemmas.List.{length-drop, take_all, take-append-drop, take_more, take_rest}
 use Rattle.std.specs.Io.KnownBytes.{Appends, Keeps}
-use Rattle.serving.specs.Written.{WritesPart}
+use Rattle.serving.specs.Written.{AppendsBeginning, WritesPart}
 use Rattle.serving.proofs.ReplayRuns.{appends_more}
 
 -- more of a text is written, of what is left of it
@@ -28,3 +30,37 @@ part_unchanged (Some x) (Some y) (Some z) bs p q = q ∙ p
 pub part_so : (IsSo Is : List ℕ → Type 0) (old new : Option (List ℕ)) → ((text : List ℕ) → IsSo text → Is text) → WritesPart IsSo old new → WritesPart Is old new
 part_so IsSo Is old new weaker (inl e) = inl e
 part_so IsSo Is old new weaker (inr w) = inr (w.0, weaker w.0 w.1, w.2)
+
+-- ---- pieces of a text, one behind another
+
+module _ {X : Type 0} (bytes : X → List ℕ) where
+  joined_more : (xs : List X) (i : ℕ) (x : X) → x ≡ get_or xs i x → i < length xs → flat_map bytes (take (i + 1) xs) ≡ flat_map bytes (take i xs) ++ bytes x
+  joined_more xs i x at lt = ap (flat_map bytes) (take_more xs i x lt ∙ ap (λ y. take i xs ++ y ∷ []) (sym at)) ∙ flat_map-append bytes (take i xs) (x ∷ []) ∙ ap (λ l. flat_map bytes (take i xs) ++ l) (append-nil (bytes x))
+
+  -- one more is written
+  pub pieces_more : (a b c : Option (List ℕ)) (xs : List X) (i : ℕ) (x : X) → x ≡ get_or xs i x → i < length xs → Appends a b (flat_map bytes (take i xs)) → Appends b c (bytes x) → Appends a c (flat_map bytes (take (i + 1) xs))
+  pieces_more a b c xs i x at lt p q = subst (Appends a c) (sym (joined_more xs i x at lt)) (appends_more a b c (flat_map bytes (take i xs)) (bytes x) p q)
+
+  four : (before begun left rest : List ℕ) → (before ++ (begun ++ left)) ++ rest ≡ (before ++ begun) ++ (left ++ rest)
+  four before begun left rest = simp append_assoc
+
+  all_of : (xs : List X) (i k : ℕ) (x : X) → x ≡ get_or xs i x → i < length xs → flat_map bytes xs ≡ (flat_map bytes (take i xs) ++ take k (bytes x)) ++ (drop k (bytes x) ++ flat_map bytes (drop (i + 1) xs))
+  all_of xs i k x at lt =
+      ap (flat_map bytes) (sym (take-append-drop (i + 1) xs))
+      ∙ flat_map-append bytes (take (i + 1) xs) (drop (i + 1) xs)
+      ∙ ap (λ l. l ++ flat_map bytes (drop (i + 1) xs)) (joined_more xs i x at lt ∙ ap (λ l. flat_map bytes (take i xs) ++ l) (sym (take-append-drop k (bytes x))))
+      ∙ four (flat_map bytes (take i xs)) (take k (bytes x)) (drop k (bytes x)) (flat_map bytes (drop (i + 1) xs))
+
+  -- a beginning of one more is written
+  pub pieces_part : (a b c : Option (List ℕ)) (xs : List X) (i : ℕ) (x : X) → x ≡ get_or xs i x → i < length xs → Appends a b (flat_map bytes (take i xs)) → AppendsBeginning b c (bytes x) → AppendsBeginning a c (flat_map bytes xs)
+  pieces_part a b c xs i x at lt p w =
+      let begun = flat_map bytes (take i xs) ++ take w.0 (bytes x) in
+      let cut = ap (take (length begun)) (all_of xs i w.0 x at lt) ∙ take-append_seam begun (drop w.0 (bytes x) ++ flat_map bytes (drop (i + 1) xs)) in
+      (length begun, subst (Appends a c) (sym cut) (appends_more a b c (flat_map bytes (take i xs)) (take w.0 (bytes x)) p w.1))
+
+  -- all are written
+  pub all_pieces : (a b : Option (List ℕ)) (xs : List X) (i : ℕ) → length xs ≤ i → Appends a b (flat_map bytes (take i xs)) → AppendsBeginning a b (flat_map bytes xs)
+  all_pieces a b xs i most p =
+      let whole = ap (flat_map bytes) (take_all i xs most) in
+      let all = take_all (length (flat_map bytes xs)) (flat_map bytes xs) (omega arith) in
+      (length (flat_map bytes xs), subst (Appends a b) (whole ∙ sym all) p)

@@ -41,7 +41,7 @@ uncoded text source fault spelled accepted is = record {
 }
 
 -- a source that is refused is so for each task
-refused_text : (text : List ℕ) → IsRefused text → HasNoCode text
+pub refused_text : (text : List ℕ) → IsRefused text → HasNoCode text
 refused_text text is = (is.0, faulty text is.0 is.1, is.2)
 
 refused_task : (task : Task) (text : List ℕ) → IsRefused text → IsRefusedFor task text

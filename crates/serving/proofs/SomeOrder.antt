@@ -53,7 +53,7 @@ as_many [] = refl
 as_many (s ∷ ss) = ap suc (as_many ss)
 
 -- the order names threads of the run
-named : (threads : ℕ) (run : List Step) → AllByRecursion (λ (s : Step). s.thread < threads) run → NamesThreads threads (map (λ (s : Step). s.thread) run)
+pub named : (threads : ℕ) (run : List Step) → AllByRecursion (λ (s : Step). s.thread < threads) run → NamesThreads threads (map (λ (s : Step). s.thread) run)
 named threads [] a k d lt = absurd (omega (arith, lt))
 named threads (s ∷ run) a zero d lt = a.0
 named threads (s ∷ run) a (suc k) d lt = named threads run a.1 k d (omega (arith, lt))
@@ -63,6 +63,18 @@ not_spent e still is = let f : true ≡ false = ap (λ x. is_stopped (order_end 
 
 -- ---- enough ticks for all threads
 
+-- what leaves what the thread leaves in a run does so with more ticks
+module _ (goes_on : GoesOn) (never_more : NeverMoreLeft) (p : Program) (run : List Step) where
+  pub leaves_more : (t n k : ℕ) → (thread p t (founds_of t run) n).lefts ≡ lefts_of t run → (thread p t (founds_of t run) (n + k)).lefts ≡ lefts_of t run
+  leaves_more t n k l =
+      let g = goes_on p t (founds_of t run) [] n k in
+      let e : founds_of t run ++ [] ≡ founds_of t run = append-nil (founds_of t run) in
+      let more : (thread p t (founds_of t run) (n + k)).lefts ≡ (thread p t (founds_of t run) n).lefts ++ g.further = subst (λ fs. (thread p t fs (n + k)).lefts ≡ (thread p t (founds_of t run) n).lefts ++ g.further) e g.lefts in
+      let few : length (thread p t (founds_of t run) (n + k)).lefts ≤ length (founds_of t run) = never_more p t (founds_of t run) (n + k) in
+      let all : length (lefts_of t run) ≡ length (founds_of t run) = as_many (of_thread t run) in
+      let here : length (thread p t (founds_of t run) n).lefts ≡ length (lefts_of t run) = ap length l in
+      no_more (thread p t (founds_of t run) n).lefts (thread p t (founds_of t run) (n + k)).lefts g.further more (omega (arith, few, all, here)) ∙ l
+
 module _ (more_ticks : MoreTicks) (goes_on : GoesOn) (never_more : NeverMoreLeft) (p : Program) (threads : ℕ) (shown : Printed) (s : IsSerial p threads shown) where
   -- with so many ticks the thread leaves what it leaves in the run, and does what is shown of it where it is over
   abbrev Leaves : ℕ → ℕ → Type 0
@@ -71,19 +83,9 @@ module _ (more_ticks : MoreTicks) (goes_on : GoesOn) (never_more : NeverMoreLeft
   abbrev Shows : ℕ → ℕ → Type 0
   Shows t n = (this : ThreadShown) → slice_get shown.threads t ≡ Some this → is_stopped this.end ≡ false → this ≡ thread_shown (thread p t (founds_of t s.run) n)
 
-  leaves_more : (t n k : ℕ) → Leaves t n → Leaves t (n + k)
-  leaves_more t n k l =
-      let g = goes_on p t (founds_of t s.run) [] n k in
-      let e : founds_of t s.run ++ [] ≡ founds_of t s.run = append-nil (founds_of t s.run) in
-      let more : (thread p t (founds_of t s.run) (n + k)).lefts ≡ (thread p t (founds_of t s.run) n).lefts ++ g.further = subst (λ fs. (thread p t fs (n + k)).lefts ≡ (thread p t (founds_of t s.run) n).lefts ++ g.further) e g.lefts in
-      let few : length (thread p t (founds_of t s.run) (n + k)).lefts ≤ length (founds_of t s.run) = never_more p t (founds_of t s.run) (n + k) in
-      let all : length (lefts_of t s.run) ≡ length (founds_of t s.run) = as_many (of_thread t s.run) in
-      let here : length (thread p t (founds_of t s.run) n).lefts ≡ length (lefts_of t s.run) = ap length l in
-      no_more (thread p t (founds_of t s.run) n).lefts (thread p t (founds_of t s.run) (n + k)).lefts g.further more (omega (arith, few, all, here)) ∙ l
-
   does_more : (t n k : ℕ) → Leaves t n × Shows t n → Leaves t (n + k) × Shows t (n + k)
   does_more t n k d = (
-    leaves_more t n k d.0,
+    leaves_more goes_on never_more p s.run t n k d.0,
     λ this at quiet.
         let is : this ≡ thread_shown (thread p t (founds_of t s.run) n) = d.1 this at quiet in
         let still : is_stopped (order_end (thread p t (founds_of t s.run) n).end) ≡ false = ap (λ (x : ThreadShown). is_stopped x.end) (sym is) ∙ quiet in

@@ -1,15 +1,17 @@
 -- What is answered to a request: what a status says of what was printed, and what is written whatever it is.
 use Rattle.std.specs.Prelude.{ℕ, List, Option, IfSome}
 use Rattle.command.specs.declared.request.Request.{Request}
-use Rattle.command.specs.declared.request.Request.TheVariants.{Program, Certify, Explain, ExplainEnd}
+use Rattle.command.specs.declared.request.Request.TheVariants.{Program, Certify, Compare, Ask, Explain, ExplainEnd}
 use Rattle.command.specs.declared.request.Task.{Task}
 use Rattle.command.specs.declared.request.Task.TheVariants.{Check, Listing, Run, Replay, Timeline, Picture}
 use Rattle.command.specs.declared.request.Task.TheVariants.{PrintOrder, PrintSchedule, Source, Outcomes}
 use Rattle.serving.specs.Certified.{CertifiesReport, WritesVerdict}
 use Rattle.serving.specs.Checks.{Accepts, SaysAccepted}
+use Rattle.serving.specs.Compared.{ComparesOutcomes, WritesComparison}
 use Rattle.serving.specs.Listings.{PrintsListing}
 use Rattle.serving.specs.Reports.{PrintsReport}
 use Rattle.serving.specs.Outcomes.{PrintsOutcomes}
+use Rattle.serving.specs.Properties.{AnswersQuestions, IsToldOf}
 use Rattle.serving.specs.Orders.{RunsInOrder, RunsInSomeOrder}
 use Rattle.serving.specs.Runs.{RunsConcurrently}
 use Rattle.serving.specs.Pictures.{PrintsPicture, ReplaysDrawn}
@@ -49,6 +51,10 @@ AnswersRequest (Program file verbose format task) schedule report bytes status o
     Answers task schedule bytes status old new
 AnswersRequest (Certify file verbose format claim) schedule report bytes status old new =
     CertifiesReport claim schedule report bytes status old new
+AnswersRequest (Compare file verbose format comparison) schedule report bytes status old new =
+    ComparesOutcomes comparison report bytes status old new
+AnswersRequest (Ask file verbose format questions) schedule report bytes status old new =
+    AnswersQuestions questions bytes status old new
 AnswersRequest (Explain number) schedule report bytes status old new = Unit {0}
 AnswersRequest (ExplainEnd word number) schedule report bytes status old new = Unit {0}
 
@@ -59,6 +65,10 @@ WritesFor (Program file verbose format task) schedule report bytes old new =
     IfSome bytes (λ text. WritesPart (IsAskedFor task schedule text) old new)
 WritesFor (Certify file verbose format claim) schedule report bytes old new =
     IfSome bytes (λ text. WritesVerdict claim schedule report text old new)
+WritesFor (Compare file verbose format comparison) schedule report bytes old new =
+    IfSome bytes (λ text. WritesComparison comparison report text old new)
+WritesFor (Ask file verbose format questions) schedule report bytes old new =
+    IfSome bytes (λ text. WritesPart (IsToldOf questions text) old new)
 WritesFor (Explain number) schedule report bytes old new = Unit {0}
 WritesFor (ExplainEnd word number) schedule report bytes old new = Unit {0}
 
@@ -66,5 +76,7 @@ WritesFor (ExplainEnd word number) schedule report bytes old new = Unit {0}
 abbrev pub most_status : Request → ℕ
 most_status (Program file verbose format task) = 4
 most_status (Certify file verbose format claim) = 5
+most_status (Compare file verbose format comparison) = 5
+most_status (Ask file verbose format questions) = 5
 most_status (Explain number) = 4
 most_status (ExplainEnd word number) = 4

@@ -16,7 +16,7 @@ module _ (IsDue : List ℕ → Type 0) (found : List ℕ) where
   -- the first line is shown in which it differs from one that is
   abbrev pub ShowsDifference : List ℕ → Type 0
   ShowsDifference written = (due : List ℕ) × (at : ℕ) × IsDue due × IsFirstDifference due found at
-      × (written ≡ difference_text due found at)
+      × (written ≡ difference_text (codes "source") (codes "report") due found at)
 
   abbrev pub IsVerdict : List ℕ → Type 0
   IsVerdict written = SaysSo written ⊎ ShowsDifference written

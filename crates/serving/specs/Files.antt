@@ -1,12 +1,15 @@
 -- The files that a request names.
 use Rattle.std.specs.Prelude.{ℕ, List, [], Option, Some, None, IfSome, string_bytes}
 use Rattle.command.specs.declared.request.Request.{Request}
-use Rattle.command.specs.declared.request.Request.TheVariants.{Program, Certify, Explain, ExplainEnd}
+use Rattle.command.specs.declared.request.Request.TheVariants.{Program, Certify, Compare, Ask, Explain, ExplainEnd}
 use Rattle.command.specs.declared.request.Steps.TheVariants.{Schedule}
 use Rattle.command.specs.declared.request.Task.{Task}
 use Rattle.command.specs.declared.request.Task.TheVariants.{Picture, Replay, Timeline}
 use Rattle.serving.specs.Answers.{Answers}
 use Rattle.serving.specs.Certified.{CertifiesReport, WritesVerdict}
+use Rattle.serving.specs.Compared.{ComparesOutcomes, HaveNoCode, WritesComparison, name_of}
+use Rattle.serving.specs.Limits.{HasNoCode}
+use Rattle.serving.specs.Properties.{AnswersQuestions, IsToldOf}
 use Rattle.serving.specs.Refusals.{IsRefused}
 use Rattle.serving.specs.Refused.{IsRefusedFor}
 use Rattle.serving.specs.Written.{IsAskedFor, WritesPart}
@@ -34,6 +37,10 @@ AnswersFiles (Program file verbose format task) contents status old new = IfSome
 AnswersFiles (Certify file verbose format claim) contents status old new = IfSome (contents (string_bytes file))
     (λ bytes. CertifiesReport claim (contents (string_bytes claim.order)) (contents (string_bytes claim.report)) bytes
     status old new)
+AnswersFiles (Compare file verbose format comparison) contents status old new = IfSome (contents (string_bytes file))
+    (λ bytes. ComparesOutcomes comparison (contents (name_of comparison.against)) bytes status old new)
+AnswersFiles (Ask file verbose format questions) contents status old new = IfSome (contents (string_bytes file))
+    (λ bytes. AnswersQuestions questions bytes status old new)
 AnswersFiles (Explain number) contents status old new = Unit {0}
 AnswersFiles (ExplainEnd word number) contents status old new = Unit {0}
 
@@ -44,6 +51,10 @@ WritesForFiles (Program file verbose format task) contents old new = IfSome (con
 WritesForFiles (Certify file verbose format claim) contents old new = IfSome (contents (string_bytes file))
     (λ bytes. WritesVerdict claim (contents (string_bytes claim.order)) (contents (string_bytes claim.report)) bytes
     old new)
+WritesForFiles (Compare file verbose format comparison) contents old new = IfSome (contents (string_bytes file))
+    (λ bytes. WritesComparison comparison (contents (name_of comparison.against)) bytes old new)
+WritesForFiles (Ask file verbose format questions) contents old new = IfSome (contents (string_bytes file))
+    (λ bytes. WritesPart (IsToldOf questions bytes) old new)
 WritesForFiles (Explain number) contents old new = Unit {0}
 WritesForFiles (ExplainEnd word number) contents old new = Unit {0}
 
@@ -53,5 +64,9 @@ RefusesSource (Program file verbose format task) contents =
     IfSome (contents (string_bytes file)) (λ bytes. IsRefusedFor task bytes)
 RefusesSource (Certify file verbose format claim) contents =
     IfSome (contents (string_bytes file)) (λ bytes. IsRefused bytes)
+RefusesSource (Compare file verbose format comparison) contents = IfSome (contents (string_bytes file))
+    (λ bytes. HaveNoCode comparison.against (contents (name_of comparison.against)) bytes)
+RefusesSource (Ask file verbose format questions) contents =
+    IfSome (contents (string_bytes file)) (λ bytes. HasNoCode bytes)
 RefusesSource (Explain number) contents = ⊥
 RefusesSource (ExplainEnd word number) contents = ⊥

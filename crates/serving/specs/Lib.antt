@@ -36,6 +36,16 @@ pub mod Laws
 pub mod Written
 -- reports that are certified
 pub mod Certified
+-- outcomes that are those of another program
+pub mod Refines
+-- lists of outcomes that are expected
+pub mod Expected
+-- outcomes that are compared
+pub mod Compared
+-- which functions of a program can be asked
+pub mod Askable
+-- properties of a source's text
+pub mod Properties
 -- what is answered to a request
 pub mod Answers
 -- the files that a request names

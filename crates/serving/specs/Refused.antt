@@ -1,10 +1,11 @@
 -- What the exit status 1 says of a source, by what is asked.
 use Rattle.std.specs.Prelude.{ℕ, List, Option, IfSome}
 use Rattle.command.specs.declared.request.Request.{Request}
-use Rattle.command.specs.declared.request.Request.TheVariants.{Program, Certify, Explain, ExplainEnd}
+use Rattle.command.specs.declared.request.Request.TheVariants.{Program, Certify, Compare, Ask, Explain, ExplainEnd}
 use Rattle.command.specs.declared.request.Task.{Task}
 use Rattle.command.specs.declared.request.Task.TheVariants.{Check, Listing, Run, Replay, Timeline, Picture}
 use Rattle.command.specs.declared.request.Task.TheVariants.{PrintOrder, PrintSchedule, Source, Outcomes}
+use Rattle.serving.specs.Compared.{HaveNoCode}
 use Rattle.serving.specs.Limits.{HasNoCode}
 use Rattle.serving.specs.Refusals.{IsRefused}
 
@@ -21,9 +22,12 @@ IsRefusedFor (PrintOrder threads order) text = HasNoCode text
 IsRefusedFor (Source threads order ticks) text = IsRefused text
 IsRefusedFor (Outcomes threads steps limit memory) text = HasNoCode text
 
--- why a request is refused, where these bytes are those of the file
-abbrev pub IsRequestRefused : Request → (bytes : Option (List ℕ)) → Type 0
-IsRequestRefused (Program file verbose format task) bytes = IfSome bytes (λ text. IsRefusedFor task text)
-IsRequestRefused (Certify file verbose format claim) bytes = IfSome bytes (λ text. IsRefused text)
-IsRequestRefused (Explain number) bytes = ⊥
-IsRequestRefused (ExplainEnd word number) bytes = ⊥
+-- why a request is refused, where these bytes are those of the file, and those of what its outcomes are compared with
+abbrev pub IsRequestRefused : Request → (other bytes : Option (List ℕ)) → Type 0
+IsRequestRefused (Program file verbose format task) other bytes = IfSome bytes (λ text. IsRefusedFor task text)
+IsRequestRefused (Certify file verbose format claim) other bytes = IfSome bytes (λ text. IsRefused text)
+IsRequestRefused (Compare file verbose format comparison) other bytes =
+    IfSome bytes (λ text. HaveNoCode comparison.against other text)
+IsRequestRefused (Ask file verbose format questions) other bytes = IfSome bytes (λ text. HasNoCode text)
+IsRequestRefused (Explain number) other bytes = ⊥
+IsRequestRefused (ExplainEnd word number) other bytes = ⊥

@@ -12,3 +12,9 @@ pub mod Threads
 pub mod Serial
 -- what the states of a walk show
 pub mod Walked
+-- what two lists of outcomes say of one another
+pub mod Compared
+-- what functions say of themselves that are asked
+pub mod Askable
+-- what the states of a walk say of properties
+pub mod Properties

@@ -9,7 +9,7 @@ ghost use Rattle.serving.specs.Refusals.{IsRefused};
 ghost use Rattle.serving.specs.Written.{IsReportOf, WritesPart};
 
 use crate::files::{Files, text_of};
-use crate::print::{print, print_text};
+use crate::print::{REFUTED, print, print_text};
 use crate::program::read_accepted;
 use crate::source::order_accepted;
 use crate::tell::{Detail, cannot_write, not_read, out_of_memory, refuse, refuse_order, unusable};
@@ -21,9 +21,6 @@ use separation::Accepted;
 use std::alloc::Allocator;
 use std::io;
 use std::io::{Read, Write};
-
-/// The exit status where a report is not the one that the source prints.
-const REFUTED: u8 = 5;
 
 /// Opens what a claim names, the source first, then the order and the report, and says whether it is so.
 pub(crate) fn open_claim<A: Allocator + Copy, F: Files, W: Write, E: Write>(
@@ -292,7 +289,10 @@ fn bad_order<E: Write>(detail: Detail<'_>, err: &mut E) -> u8
 }
 
 /// Reads all that is left.
-fn read_all<A: Allocator, R: Read + Drop>(alloc: A, mut reader: R) -> io::Result<Vec<u8, A>>
+pub(crate) fn read_all<A: Allocator, R: Read + Drop>(
+    alloc: A,
+    mut reader: R,
+) -> io::Result<Vec<u8, A>>
     ensures { IfOk result (λ v. IfSome (R.remaining reader) (λ bytes. v.items ≡ bytes)) }
 {
     let mut bytes = Vec::new(alloc);
@@ -314,7 +314,7 @@ fn tell_verdict<A: Allocator + Copy, W: Write, E: Write>(
     ensures written { WritesPart (IsVerdict (λ text. text ≡ due.now) found.now) (W.contents out.old)
         (W.contents out.new) }
 {
-    match difference(alloc, due, found) {
+    match difference(alloc, b"source", due, b"report", found) {
         Ok(None) => print_text(b"certified\n", out, err),
         Ok(Some(difference)) => match print(difference.as_slice(), out) {
             Ok(()) => REFUTED,

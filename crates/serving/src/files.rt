@@ -13,11 +13,14 @@ ghost use Rattle.replay.specs.Schedules.{counts};
 ghost use Rattle.replay.specs.Turns.{AreLinesOfOrder};
 ghost use Rattle.serving.specs.Replays.{AreLinesOf, IsSchedule, lines_of_seed};
 
+use crate::ask::open_asked;
 use crate::certify::open_claim;
+use crate::compared::open_comparison;
 use crate::request::{explain, explain_end, serve_program};
 use crate::tell::{
     Detail, not_read, not_text, refuse_order, refuse_replay, refuse_schedule, too_long,
 };
+use crate::timed::Timed;
 use bytecode::Code;
 use command::{Request, Steps, Task};
 use lex::MOST_BYTES;
@@ -28,6 +31,7 @@ use std::io;
 use std::io::{IsTerminal, Read, Write};
 use std::sync::Wait;
 use std::thread::Threads;
+use std::time::Clock;
 use world::WorldFault;
 
 /// Where files are opened by their names.
@@ -46,17 +50,16 @@ pub trait Files {
 /// Opens the files that a request names, does what is asked over them and two writers, and gives the exit status, as
 /// `serve` does.
 ///
-/// The source is opened first, and then a schedule, or an order and a report, where they are named. What cannot be
-/// opened is told of as what cannot be read. The line of a fault follows it where `err` is a terminal, or the words ask
-/// for it.
-pub fn serve_files<H: Threads + Wait + Sync, F: Files, W: Write, E: Write + IsTerminal + Send>(
-    rt: &H,
-    alloc: Global,
-    request: &Request,
-    files: &F,
-    out: &mut W,
-    err: &mut E,
-) -> u8
+/// The source is opened first, and then a schedule, or an order and a report, or what outcomes are compared with, where
+/// they are named. What cannot be opened is told of as what cannot be read. The line of a fault follows it where `err` is
+/// a terminal, or the words ask for it. A line that tells there how far a walk over states is has the seconds since it
+/// was asked for, by the clock of `rt`.
+pub fn serve_files<
+    H: Threads + Wait + Clock + Sync,
+    F: Files,
+    W: Write,
+    E: Write + IsTerminal + Send,
+>(rt: &H, alloc: Global, request: &Request, files: &F, out: &mut W, err: &mut E) -> u8
     ensures status { result ≤ most_status request.now }
     ensures answer { AnswersFiles request.now (F.contents files.now) result (W.contents out.old) (W.contents out.new) }
     ensures written { WritesForFiles request.now (F.contents files.now) (W.contents out.old) (W.contents out.new) }
@@ -70,8 +73,15 @@ pub fn serve_files<H: Threads + Wait + Sync, F: Files, W: Write, E: Write + IsTe
             format,
             task,
         } => {
-            let detail = Detail::of(file.as_str(), *verbose, *format, err.is_terminal());
-            open_source(rt, alloc, file.as_str(), task, files, detail, out, err)
+            let file = file.as_str();
+            let detail = Detail::of(file, *verbose, *format, err.is_terminal());
+            match task {
+                Task::Outcomes { .. } => {
+                    let mut err = Timed::new(err, rt);
+                    open_source(rt, alloc, file, task, files, detail, out, &mut err)
+                }
+                _ => open_source(rt, alloc, file, task, files, detail, out, err),
+            }
         }
         Request::Certify {
             file,
@@ -81,6 +91,42 @@ pub fn serve_files<H: Threads + Wait + Sync, F: Files, W: Write, E: Write + IsTe
         } => {
             let detail = Detail::of(file.as_str(), *verbose, *format, err.is_terminal());
             open_claim(alloc, file.as_str(), claim, files, detail, out, err)
+        }
+        Request::Compare {
+            file,
+            verbose,
+            format,
+            comparison,
+        } => {
+            let detail = Detail::of(file.as_str(), *verbose, *format, err.is_terminal());
+            let mut err = Timed::new(err, rt);
+            open_comparison(
+                alloc,
+                file.as_str(),
+                comparison,
+                files,
+                detail,
+                out,
+                &mut err,
+            )
+        }
+        Request::Ask {
+            file,
+            verbose,
+            format,
+            questions,
+        } => {
+            let detail = Detail::of(file.as_str(), *verbose, *format, err.is_terminal());
+            let mut err = Timed::new(err, rt);
+            open_asked(
+                alloc,
+                file.as_str(),
+                questions,
+                files,
+                detail,
+                out,
+                &mut err,
+            )
         }
         Request::Explain { number } => explain(*number, out, err),
         Request::ExplainEnd { word, number } => explain_end(word.as_str(), *number, out, err),

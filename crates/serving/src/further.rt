@@ -57,7 +57,8 @@ fn tell_warning<A: Allocator + Copy, E: Write>(
             let _ = writeln!(err, ":{line}:{column}: warning: {what} [{name}]");
         }
         Format::Json => {
-            if let Ok(object) = warning_line(alloc, detail.file, text, warning.span, name) {
+            let (span, other) = (warning.span, warning.other);
+            if let Ok(object) = warning_line(alloc, detail.file, text, span, other, name) {
                 let _ = err.write_all(object.as_slice());
             }
         }

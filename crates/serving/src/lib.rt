@@ -3,9 +3,13 @@
 #![tactic(auto)]
 
 mod all_outcomes;
+mod ask;
+mod askable;
 mod certify;
 mod check;
+mod compared;
 mod ends;
+mod expected;
 mod files;
 mod further;
 mod globals;
@@ -17,6 +21,8 @@ mod pictures;
 mod print;
 mod program;
 mod progress;
+mod properties;
+mod refined;
 mod replays;
 mod request;
 mod run;
@@ -24,6 +30,7 @@ mod run_line;
 mod served;
 mod source;
 mod tell;
+mod timed;
 mod walked;
 mod words;
 
@@ -36,5 +43,6 @@ pub use request::serve_alone;
 pub use served::serve;
 pub use source::{OrderFault, run_in_order};
 pub use tell::{Detail, not_read, refuse_run, tell_usage, unread_words};
+pub use timed::Timed;
 pub use walked::OutcomesFound;
 pub use words::serve_words;

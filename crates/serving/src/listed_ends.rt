@@ -1,4 +1,5 @@
-//! Where threads stand that trapped in listed outcomes, or wait in orders that are stuck, told behind the list.
+//! Where threads stand that trapped in listed outcomes, or wait in orders that are stuck, and which option lets a walk go
+//! on that was stopped, told behind the list.
 
 use crate::ends::{is_some_new, tell_threads};
 use crate::program::read_accepted;
@@ -6,13 +7,14 @@ use crate::source::order_accepted;
 use crate::tell::Detail;
 use crate::walked::OutcomesFound;
 use lex::token::Span;
-use report::{End, ReportedOrder, ThreadShown};
+use report::{End, ReportedOrder, ThreadShown, WalkEnd};
 use separation::Accepted;
 use std::alloc::Allocator;
 use std::io::Write;
 
 /// Tells where threads trapped in outcomes, and where they stand in orders that are stuck, where lines are wanted: of
-/// each order that shows a place of which none before has told. The orders are run once more for it.
+/// each order that shows a place of which none before has told. The orders are run once more for it. Of a walk that was
+/// stopped it says which option lets it go on.
 pub(crate) fn tell_listed_ends<A: Allocator + Copy, E: Write>(
     alloc: A,
     text: &str,
@@ -30,6 +32,18 @@ pub(crate) fn tell_listed_ends<A: Allocator + Copy, E: Write>(
         tell_orders(alloc, text, &accepted, threads, outcomes, &mut shown, err);
         tell_orders(alloc, text, &accepted, threads, stuck, &mut shown, err);
     }
+    tell_stop(found.end, err);
+}
+
+/// Says which option lets a walk go on that was stopped.
+fn tell_stop<E: Write>(end: WalkEnd, err: &mut E) {
+    let words = match end {
+        WalkEnd::Whole => return,
+        WalkEnd::AtLimit => "--limit L is how many states it looks at",
+        WalkEnd::AtSteps => "--steps N is how many steps a thread may make in one turn",
+        WalkEnd::AtMemory => "--memory MB is how much memory states and list may take",
+    };
+    let _ = writeln!(err, "txc: {words}");
 }
 
 /// Tells of each of these orders where threads stand.

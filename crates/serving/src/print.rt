@@ -6,11 +6,12 @@ ghost use Rattle.report.specs.Views.{printed_of};
 ghost use Rattle.serving.specs.Reports.{exit_status, is_spent, is_stopped, is_trapped};
 ghost use Rattle.std.specs.Io.KnownBytes.{Appends};
 ghost use Rattle.serving.specs.Written.{AppendsBeginning, WritesPart};
+ghost use Rattle.report.specs.Pieces.{joined};
 ghost use Rattle.report.specs.Report.{report_text};
 ghost use Rattle.serving.specs.inner.Printing.{PrintsShown};
 
 use crate::tell::{cannot_write, out_of_memory};
-use report::{End, Printed, ThreadShown, report_text};
+use report::{End, Piece, Printed, ThreadShown, pieces_of};
 use std::alloc::Allocator;
 use std::io;
 use std::io::{ErrorKind, Write};
@@ -29,6 +30,9 @@ pub(crate) const TRAPPED: u8 = 3;
 
 /// The exit status where the program could not do its work: memory or output was refused, or a thread went no further.
 pub(crate) const STOPPED: u8 = 4;
+
+/// The exit status where a report is not the one that the source prints, or outcomes are not those that were said.
+pub(crate) const REFUTED: u8 = 5;
 
 /// Whether a thread has neither ended nor trapped.
 fn is_stopped(end: End) -> bool
@@ -129,7 +133,27 @@ pub(crate) fn print_text<W: Write, E: Write>(text: &[u8], out: &mut W, err: &mut
     }
 }
 
-/// Prints a report, and gives the exit status by the ends of its threads.
+/// Writes pieces of a text, one behind another. Where that fails a beginning of the text is written.
+fn write_pieces<A: Allocator, W: Write>(pieces: &[Piece<'_, A>], out: &mut W) -> io::Result<()>
+    ensures whole { OnOk result (Appends (W.contents out.old) (W.contents out.new) (joined pieces.now)) }
+    ensures part { AppendsBeginning (W.contents out.old) (W.contents out.new) (joined pieces.now) }
+{
+    'pieces: for piece in pieces {
+        write_text(piece.bytes(), out)?;
+    }
+    Ok(())
+}
+
+/// Writes pieces of a text and flushes the writer.
+fn print_pieces<A: Allocator, W: Write>(pieces: &[Piece<'_, A>], out: &mut W) -> io::Result<()>
+    ensures whole { OnOk result (Appends (W.contents out.old) (W.contents out.new) (joined pieces.now)) }
+    ensures part { AppendsBeginning (W.contents out.old) (W.contents out.new) (joined pieces.now) }
+{
+    write_pieces(pieces, out)?;
+    out.flush()
+}
+
+/// Prints a report, each thread's text from where it lies, and gives the exit status by the ends of its threads.
 pub(crate) fn print_report<A: Allocator + Copy, W: Write, E: Write>(
     alloc: A,
     printed: &Printed<A>,
@@ -142,8 +166,8 @@ pub(crate) fn print_report<A: Allocator + Copy, W: Write, E: Write>(
         (W.contents out.new) }
     ensures not_refused { result ≢ 1 }
 {
-    match report_text(alloc, printed) {
-        Ok(report) => match print(report.as_slice(), out) {
+    match pieces_of(alloc, printed) {
+        Ok(pieces) => match print_pieces(pieces.as_slice(), out) {
             Ok(()) => status_of(printed),
             Err(_) => cannot_write(err),
         },

@@ -24,7 +24,7 @@ use std::thread::Threads;
 use workers::RunFault;
 
 /// The bytes of so many MB.
-fn bytes_of_memory(memory: u32) -> u64 {
+pub(crate) fn bytes_of_memory(memory: u32) -> u64 {
     u64::from(memory) * 1048576
 }
 

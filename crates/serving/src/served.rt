@@ -4,7 +4,9 @@ ghost use Rattle.std.specs.Prelude.{◌≡◌, ◌≤◌, IfSome};
 ghost use Rattle.serving.specs.Answers.{AnswersRequest, WritesFor, most_status};
 ghost use Rattle.serving.specs.Refused.{IsRequestRefused};
 
+use crate::ask::ask;
 use crate::certify::certify;
+use crate::compared::compare;
 use crate::request::{explain, explain_end, serve_program};
 use crate::tell::Detail;
 use command::Request;
@@ -16,14 +18,17 @@ use std::thread::Threads;
 /// Does what is asked over three readers and two writers, and gives the exit status.
 ///
 /// The source's text is read from `source`, a schedule, or an order that is listed, from `schedule`, once the source has
-/// code or is accepted, and a report from `report`, once the source has run. The report, the list of outcomes,
-/// `accepted`, `certified` or the line in which a report differs, or what a fault means goes to `out`, and faults to
-/// `err`; what `err` does not take is lost. Where `err` is a terminal, or the words ask for it, the line of the source
-/// or of the schedule follows its fault. The status is 0 where all threads ended, all outcomes were listed, the source
-/// is accepted, a report is certified or a fault is explained, 1 where the source is refused and nothing is printed, 2
-/// where one of the readers cannot be read, the source or the schedule is not UTF-8, the schedule or an order is
-/// refused, or the words are of no use, 3 where a thread trapped, in a run or in some outcome, 4 where one did neither,
-/// there may be more outcomes, a step was not made, or memory or `out` was refused, and 5 where a report is another.
+/// code or is accepted, and a report from `report`, once the source has run; from there too what its outcomes are
+/// compared with, a list once they are found, or the source of another program. The report, the list of outcomes,
+/// `accepted`, `certified` or the line in which a report differs, what outcomes are compared to, or what a fault means
+/// goes to `out`, and faults to `err`; what `err` does not take is lost. Where `err` is a terminal, or the words ask for
+/// it, the line of the source or of the schedule follows its fault. The status is 0 where all threads ended, all outcomes
+/// were listed, outcomes are those of another program or of a list, all properties hold, the source is accepted, a report
+/// is certified or a fault is explained, 1 where a source is refused and nothing is printed, 2 where one of the readers
+/// cannot be read, the source or the schedule is not UTF-8, the schedule or an order is refused, a function may not be
+/// asked, or the words are of no use, 3 where a thread trapped, in a run or in some outcome, 4 where one did neither,
+/// there may be more outcomes, a step was not made, or memory or `out` was refused, and 5 where a report is another, or
+/// outcomes are, or a property fails.
 pub fn serve<
     H: Threads + Wait + Sync,
     R: Read + Drop,
@@ -46,7 +51,7 @@ pub fn serve<
     ensures answer { IfSome (R.remaining source)
         (λ bytes. AnswersRequest request.now (S.remaining schedule) (Q.remaining report) bytes result
         (W.contents out.old) (W.contents out.new)) }
-    ensures refused { result ≡ 1 → IsRequestRefused request.now (R.remaining source) }
+    ensures refused { result ≡ 1 → IsRequestRefused request.now (Q.remaining report) (R.remaining source) }
     ensures written { WritesFor request.now (S.remaining schedule) (Q.remaining report) (R.remaining source)
         (W.contents out.old) (W.contents out.new) }
     ensures untouched { result ≡ 1 → W.contents out.new ≡ W.contents out.old }
@@ -89,6 +94,33 @@ pub fn serve<
                 out,
                 err,
             )
+        }
+        Request::Compare {
+            file,
+            verbose,
+            format,
+            comparison,
+        } => {
+            let detail = Detail::of(file.as_str(), *verbose, *format, is_terminal);
+            compare(
+                alloc,
+                file.as_str(),
+                comparison,
+                source,
+                report,
+                detail,
+                out,
+                err,
+            )
+        }
+        Request::Ask {
+            file,
+            verbose,
+            format,
+            questions,
+        } => {
+            let detail = Detail::of(file.as_str(), *verbose, *format, is_terminal);
+            ask(alloc, file.as_str(), questions, source, detail, out, err)
         }
         Request::Explain { number } => explain(*number, out, err),
         Request::ExplainEnd { word, number } => explain_end(word.as_str(), *number, out, err),

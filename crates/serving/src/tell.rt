@@ -58,6 +58,18 @@ impl<'a> Detail<'a> {
             },
         }
     }
+
+    /// How faults of another file's program are told.
+    pub(crate) fn of_file<'b>(self, file: &'b str) -> Detail<'b> {
+        Detail {
+            lines: self.lines,
+            reasons: self.reasons,
+            file,
+            format: self.format,
+            further: self.further,
+            progress: self.progress,
+        }
+    }
 }
 
 /// Tells help, or why words are not a request. Gives the exit status.
@@ -91,6 +103,7 @@ pub(crate) fn refuse<A: Allocator + Copy, E: Write>(
 ) -> u8
     ensures within { result ≤ 4 }
     ensures not_ended { result ≢ 0 }
+    ensures not_unusable { result ≢ 2 }
     ensures not_trapped { result ≢ 3 }
     ensures refused { result ≡ 1 → is_some (span_of_source fault) ≡ true }
 {
@@ -391,6 +404,7 @@ fn span_of_line(text: &[u8], line: usize) -> Span {
 /// Says why an order is refused.
 pub(crate) fn refuse_order<E: Write>(fault: MeaningFault, detail: Detail<'_>, err: &mut E) -> u8
     ensures status { (result ≡ 2) ⊎ (result ≡ 4) }
+    ensures memory { fault ≡ MeaningFault.OutOfMemory → result ≡ 4 }
     ensures stranger { fault ≡ MeaningFault.Stranger → result ≡ 2 }
     ensures threads { fault ≡ MeaningFault.WrongThreads → result ≡ 4 }
 {

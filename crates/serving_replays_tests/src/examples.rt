@@ -270,6 +270,97 @@ type Transcript = (
 fn first_transcripts() -> &'static [Transcript] {
     static ROWS: [Transcript; 18] = [
         (
+            "txc outcomes examples/properties/average.c --threads 2 --always average_is_small,comes_to_an_end --steps 1000",
+            b"// What is asked may trap, as where it divides by a number that is 0, or may never end.\nint sum, count, steps = 1;\n\nint average_is_small(void) { return sum / count < 10; }\n\nint comes_to_an_end(void) {\n    int i = 0;\n    while (i != count * 2) i = i + 2 * steps;\n    return 1;\n}\n\nvoid worker(int self) {\n    __transaction_atomic { sum = sum + self; }\n    __transaction_atomic { count = count + 1; }\n    __transaction_atomic { steps = 0; }\n}\n",
+            b"",
+            b"",
+            b"== not average_is_small --order ''\n== thread 0: waits\n== thread 1: waits\n== memory\nsum = 0\ncount = 0\nsteps = 1\n== spent comes_to_an_end --order 0,0,0\n== thread 0: ended\n== thread 1: waits\n== memory\nsum = 0\ncount = 1\nsteps = 0\n",
+        ),
+        (
+            "txc outcomes examples/properties/bank.c --threads 3 --always kept,covered",
+            b"// Three accounts, and threads that move money round: each moves 10 from its own to the next, twice, in one transaction.\nint account[3] = {20, 20, 20};\n\nint kept(void) {\n    int i, sum = 0;\n    for (i = 0; i < 3; i++) sum = sum + account[i];\n    return sum == 60;\n}\n\nint covered(void) { return account[0] >= 0 && account[1] >= 0 && account[2] >= 0; }\n\nvoid worker(int self) {\n    int i, from = self % 3, to = (self + 1) % 3;\n    for (i = 0; i < 2; i++) {\n        __transaction_atomic {\n            if (account[from] >= 10) {\n                account[from] = account[from] - 10;\n                account[to] = account[to] + 10;\n            }\n        }\n    }\n}\n",
+            b"",
+            b"",
+            b"== always kept: states 27\n== always covered: states 27\n",
+        ),
+        (
+            "txc outcomes examples/properties/bank_broken.c --threads 2 --final kept --always kept",
+            b"// Money is taken in one transaction and put in the next: between the two it is nowhere. In the end nothing is lost.\nint account[3] = {20, 20, 20};\n\nint kept(void) {\n    int i, sum = 0;\n    for (i = 0; i < 3; i++) sum = sum + account[i];\n    return sum == 60;\n}\n\nvoid worker(int self) {\n    int i, free, from = self % 3, to = (self + 1) % 3;\n    for (i = 0; i < 2; i++) {\n        __transaction_atomic { free = account[from] >= 10; if (free) account[from] = account[from] - 10; }\n        if (free) __transaction_atomic { account[to] = account[to] + 10; }\n    }\n}\n",
+            b"",
+            b"",
+            b"== not kept --order 1\n== thread 0: waits\n== thread 1: waits\n== memory\naccount = 20 10 20\n== final kept: outcomes 1\n",
+        ),
+        (
+            "txc outcomes examples/properties/lock.c --threads 3 --always alone",
+            b"// A lock made of transactions: a thread tests it and takes it in one. Inside it counts itself in, and out again.\nint taken, inside, entered;\n\nint alone(void) { return inside <= 1; }\n\nvoid worker(int self) {\n    int mine = 0;\n    while (!mine) {\n        __transaction_atomic { mine = !taken; if (mine) taken = 1; }\n    }\n    __transaction_atomic { inside = inside + 1; }\n    __transaction_atomic { inside = inside - 1; entered = entered + 1; }\n    __transaction_atomic { taken = 0; }\n}\n",
+            b"",
+            b"",
+            b"== always alone: states 44\n",
+        ),
+        (
+            "txc outcomes examples/properties/lock_broken.c --threads 2 --always alone",
+            b"// A lock that is tested in one transaction and taken in the next: two threads may find it free.\nint taken, inside, entered;\n\nint alone(void) { return inside <= 1; }\n\nvoid worker(int self) {\n    int mine = 0;\n    while (!mine) {\n        __transaction_atomic { mine = !taken; }\n    }\n    __transaction_atomic { taken = 1; }\n    __transaction_atomic { inside = inside + 1; }\n    __transaction_atomic { inside = inside - 1; entered = entered + 1; }\n    __transaction_atomic { taken = 0; }\n}\n",
+            b"",
+            b"",
+            b"== not alone --order 0,1,0,0,1,1\n== thread 0: waits\n== thread 1: waits\n== memory\ntaken = 1\ninside = 2\nentered = 0\n",
+        ),
+        (
+            "txc outcomes examples/properties/philosophers.c --threads 3 --always neighbours_wait",
+            b"// Philosophers, each with a fork to the left and one to the right, who take both in one transaction and put both back.\nint taken[3], eating[3], meals;\n\nint neighbours_wait(void) {\n    return !(eating[0] && eating[1]) && !(eating[1] && eating[2]) && !(eating[2] && eating[0]);\n}\n\nvoid worker(int self) {\n    int mine = 0, left = self % 3, right = (self + 1) % 3;\n    while (!mine) {\n        __transaction_atomic {\n            mine = !taken[left] && !taken[right];\n            if (mine) { taken[left] = 1; taken[right] = 1; }\n        }\n    }\n    __transaction_atomic { eating[left] = 1; }\n    __transaction_atomic { eating[left] = 0; meals = meals + 1; }\n    __transaction_atomic { taken[left] = 0; taken[right] = 0; }\n}\n",
+            b"",
+            b"",
+            b"== always neighbours_wait: states 44\n",
+        ),
+        (
+            "txc outcomes examples/properties/philosophers_broken.c --threads 3 --always neighbours_wait",
+            b"// Philosophers who take the left fork in one transaction and the right one in the next: each may have one and wait for ever.\nint taken[3], eating[3], meals;\n\nint neighbours_wait(void) {\n    return !(eating[0] && eating[1]) && !(eating[1] && eating[2]) && !(eating[2] && eating[0]);\n}\n\nvoid take(int fork) {\n    int mine = 0;\n    while (!mine) {\n        __transaction_atomic { mine = !taken[fork]; if (mine) taken[fork] = 1; }\n    }\n}\n\nvoid worker(int self) {\n    int left = self % 3, right = (self + 1) % 3;\n    take(left);\n    take(right);\n    __transaction_atomic { eating[left] = 1; }\n    __transaction_atomic { eating[left] = 0; meals = meals + 1; }\n    __transaction_atomic { taken[left] = 0; taken[right] = 0; }\n}\n",
+            b"",
+            b"",
+            b"== always neighbours_wait: states 81\n== stuck --order 0,1,2\n== thread 0: waits\n== thread 1: waits\n== thread 2: waits\n== memory\ntaken = 1 1 1\neating = 0 0 0\nmeals = 0\n",
+        ),
+        (
+            "txc outcomes examples/properties/queue.c --threads 4 --always within --final all_taken",
+            b"// A queue of two places: even threads put three numbers into it, odd ones take three. Who finds no place or no number waits.\nint slots[2], head, count, sum;\n\nint within(void) { return count >= 0 && count <= 2; }\nint all_taken(void) { return count == 0 && sum % 6 == 0; }\n\nvoid worker(int self) {\n    int i, done;\n    for (i = 1; i <= 3; i++) {\n        do {\n            __transaction_atomic {\n                if (self % 2 == 0) {\n                    done = count < 2;\n                    if (done) { slots[(head + count) % 2] = i; count = count + 1; }\n                } else {\n                    done = count > 0;\n                    if (done) { sum = sum + slots[head]; head = (head + 1) % 2; count = count - 1; }\n                }\n            }\n        } while (!done);\n    }\n}\n",
+            b"",
+            b"",
+            b"== always within: states 1275\n== final all_taken: outcomes 2\n",
+        ),
+        (
+            "txc outcomes examples/properties/queue_broken.c --threads 2 --always within",
+            b"// The place is looked for in one transaction and filled in the next: two threads may fill the last one.\nint slots[2], head, count, sum;\n\nint within(void) { return count >= 0 && count <= 2; }\n\nvoid worker(int self) {\n    int i, done;\n    for (i = 1; i <= 2; i++) {\n        __transaction_atomic { done = count < 2; }\n        if (done) {\n            __transaction_atomic { slots[(head + count) % 2] = i; count = count + 1; }\n        }\n    }\n    __transaction_atomic {\n        if (count > 0) { sum = sum + slots[head]; head = (head + 1) % 2; count = count - 1; }\n    }\n}\n",
+            b"",
+            b"",
+            b"== not within --order 0,0,0,1,0,1\n== thread 0: waits\n== thread 1: waits\n== memory\nslots = 1 2\nhead = 0\ncount = 3\nsum = 0\n",
+        ),
+        (
+            "txc outcomes examples/properties/lock.c --always alone,free",
+            b"// A lock made of transactions: a thread tests it and takes it in one. Inside it counts itself in, and out again.\nint taken, inside, entered;\n\nint alone(void) { return inside <= 1; }\n\nvoid worker(int self) {\n    int mine = 0;\n    while (!mine) {\n        __transaction_atomic { mine = !taken; if (mine) taken = 1; }\n    }\n    __transaction_atomic { inside = inside + 1; }\n    __transaction_atomic { inside = inside - 1; entered = entered + 1; }\n    __transaction_atomic { taken = 0; }\n}\n",
+            b"",
+            b"",
+            b"txc: usage: --always free: no function of the file\n",
+        ),
+        (
+            "txc outcomes examples/properties/seats.c --threads 4 --always no_seat_twice",
+            b"// Two seats, and buyers who look and buy in one transaction: no seat is sold twice.\nint seats = 2, buyer[2] = {-1, -1}, sold;\n\nint no_seat_twice(void) { return sold + seats == 2 && seats >= 0; }\n\nvoid worker(int self) {\n    __transaction_atomic {\n        if (seats > 0) {\n            seats = seats - 1;\n            buyer[seats] = self;\n            sold = sold + 1;\n        }\n    }\n}\n",
+            b"",
+            b"",
+            b"== always no_seat_twice: states 53\n",
+        ),
+        (
+            "txc outcomes examples/properties/seats_broken.c --threads 3 --always no_seat_twice",
+            b"// Two seats, and buyers who look in one transaction and buy in the next: with three of them a seat is sold that is not there.\nint seats = 2, sold;\n\nint no_seat_twice(void) { return sold + seats == 2 && seats >= 0; }\n\nvoid worker(int self) {\n    int free;\n    __transaction_atomic { free = seats > 0; }\n    if (free) {\n        __transaction_atomic {\n            seats = seats - 1;\n            sold = sold + 1;\n        }\n    }\n}\n",
+            b"",
+            b"",
+            b"== not no_seat_twice --order 0,0,1,2,1,2\n== thread 0: ended\n== thread 1: ended\n== thread 2: ended\n== memory\nseats = -1\nsold = 3\n",
+        ),
+        (
+            "txc outcomes examples/properties/seats_broken.c --threads 2 --always no_seat_twice",
+            b"// Two seats, and buyers who look in one transaction and buy in the next: with three of them a seat is sold that is not there.\nint seats = 2, sold;\n\nint no_seat_twice(void) { return sold + seats == 2 && seats >= 0; }\n\nvoid worker(int self) {\n    int free;\n    __transaction_atomic { free = seats > 0; }\n    if (free) {\n        __transaction_atomic {\n            seats = seats - 1;\n            sold = sold + 1;\n        }\n    }\n}\n",
+            b"",
+            b"",
+            b"== always no_seat_twice: states 9\n",
+        ),
+        (
             "txc certify examples/hashset.c --threads 2 --order-file examples/orders/hashset.txt --report examples/orders/hashset.out",
             b"// A set of numbers in a table of 16 places, without a lock of its own: each insertion is one step.\nint place[16], count;\n\nint insert(int key) {\n    int at = key * 7 & 15, added = 0;\n    __transaction_atomic {\n        while (place[at] != 0 && place[at] != key) at = at + 1 & 15;\n        if (place[at] == 0) {\n            place[at] = key;\n            count = count + 1;\n            added = 1;\n        }\n    }\n    return added;\n}\n\nvoid worker(int self) {\n    int i, added = 0;\n    for (i = 1; i <= 4; i++) added = added + insert(i * (self + 1));\n    printf(\"%d added\\n\", added);\n}\n",
             b"0,1,0,1,0,1,0,1\n",
@@ -304,6 +395,12 @@ fn first_transcripts() -> &'static [Transcript] {
             b"",
             b"{\"file\":\"examples/refused/bare.c\",\"line\":2,\"column\":25,\"end_line\":2,\"end_column\":26,\"fault\":50,\"message\":\"shared access outside a transaction\",\"notes\":[\"write __transaction_atomic { .. } round it, or __transaction_atomic ( .. ) round an expression\"]}\n",
         ),
+    ];
+    &ROWS
+}
+
+fn second_transcripts() -> &'static [Transcript] {
+    static ROWS: [Transcript; 18] = [
         (
             "txc check examples/refused/bare.c --format short",
             b"int x;\nvoid worker(int self) { x = 1; }\n",
@@ -361,6 +458,20 @@ fn first_transcripts() -> &'static [Transcript] {
             b"accepted\nexamples/seats.c:6:35: warning: another transaction writes by what is read here [stale-read]\n",
         ),
         (
+            "txc outcomes examples/audit.c --threads 2 --expect examples/lists/audit.txt",
+            b"// Thread 0 moves 50 in two transactions. Thread 1 counts the money, and can find that 50 are missing.\nint checking = 120, savings = 40;\n\nvoid worker(int self) {\n    int total;\n    if (self == 0) {\n        __transaction_atomic { checking = checking - 50; }\n        __transaction_atomic { savings = savings + 50; }\n    } else {\n        __transaction_atomic { total = checking + savings; }\n        printf(\"%d\\n\", total);\n    }\n}\n",
+            b"",
+            b"== outcome --order 0,0,1\n== thread 0: ended\n== thread 1: ended\n160\n== memory\nchecking = 70\nsavings = 90\n== outcome --order 0,1,0\n== thread 0: ended\n== thread 1: ended\n110\n== memory\nchecking = 70\nsavings = 90\n== outcomes: 2, stuck: 0, states: 8\n",
+            b"as expected\n",
+        ),
+        (
+            "txc outcomes examples/audit_mended.c --threads 2 --expect examples/lists/audit.txt",
+            b"// Thread 0 moves 50 in one transaction. Thread 1 counts the money, and finds all of it.\nint checking = 120, savings = 40;\n\nvoid worker(int self) {\n    int total;\n    if (self == 0) {\n        __transaction_atomic {\n            checking = checking - 50;\n            savings = savings + 50;\n        }\n    } else {\n        __transaction_atomic { total = checking + savings; }\n        printf(\"%d\\n\", total);\n    }\n}\n",
+            b"",
+            b"== outcome --order 0,0,1\n== thread 0: ended\n== thread 1: ended\n160\n== memory\nchecking = 70\nsavings = 90\n== outcome --order 0,1,0\n== thread 0: ended\n== thread 1: ended\n110\n== memory\nchecking = 70\nsavings = 90\n== outcomes: 2, stuck: 0, states: 8\n",
+            b"line 1 differs\nexpected: == outcome --order 0,0,1\nfound: == outcome --order 0,1\n",
+        ),
+        (
             "txc explain 20",
             b"",
             b"",
@@ -395,12 +506,6 @@ fn first_transcripts() -> &'static [Transcript] {
             b"",
             b"function worker registers 4\n0 const r1 #0\n1 begin >6\n2 rd r2 @0\n3 const r3 #1\n4 add.s r2 r2 r3\n5 commit\n6 const r3 #2\n7 mul.s r1 r2 r3\n8 irrevocable\n9 print.s r1\n10 print.t #0\n11 ret\ntext 0 \"\\n\"\n",
         ),
-    ];
-    &ROWS
-}
-
-fn second_transcripts() -> &'static [Transcript] {
-    static ROWS: [Transcript; 18] = [
         (
             "txc outcomes examples/audit.c --threads 2",
             b"// Thread 0 moves 50 in two transactions. Thread 1 counts the money, and can find that 50 are missing.\nint checking = 120, savings = 40;\n\nvoid worker(int self) {\n    int total;\n    if (self == 0) {\n        __transaction_atomic { checking = checking - 50; }\n        __transaction_atomic { savings = savings + 50; }\n    } else {\n        __transaction_atomic { total = checking + savings; }\n        printf(\"%d\\n\", total);\n    }\n}\n",
@@ -422,6 +527,12 @@ fn second_transcripts() -> &'static [Transcript] {
             b"",
             b"== outcome --order 0,0,0,1,1,1\n== thread 0: ended\n== thread 1: ended\n== memory\nx = 6\n== outcomes: 1, stuck: 0, states: 16\n",
         ),
+    ];
+    &ROWS
+}
+
+fn third_transcripts() -> &'static [Transcript] {
+    static ROWS: [Transcript; 18] = [
         (
             "txc outcomes examples/locks.c --threads 2",
             b"// Two locks, which thread 0 takes in one order and thread 1 in the other: each can have one and wait for the other's.\nint locked[2], done;\n\nvoid take(int which) {\n    int mine = 0;\n    while (!mine) {\n        __transaction_atomic { mine = !locked[which]; if (mine) locked[which] = 1; }\n    }\n}\n\nvoid worker(int self) {\n    take(self);\n    take(1 - self);\n    __transaction_atomic { done = done + 1; locked[0] = 0; locked[1] = 0; }\n}\n",
@@ -472,6 +583,34 @@ fn second_transcripts() -> &'static [Transcript] {
             b"== outcome --order 0,0,0,0,0,0,0,0,1,1,1,1,1,1,1,1\n== thread 0: ended\n== thread 1: ended\n== memory\nnext = 4\nserving = 4\ninside = 0\nmost = 1\nentered = 4\n== outcomes: 1, stuck: 0, states: 100\n",
         ),
         (
+            "txc outcomes examples/audit.c --threads 2 --refines examples/audit_mended.c",
+            b"// Thread 0 moves 50 in two transactions. Thread 1 counts the money, and can find that 50 are missing.\nint checking = 120, savings = 40;\n\nvoid worker(int self) {\n    int total;\n    if (self == 0) {\n        __transaction_atomic { checking = checking - 50; }\n        __transaction_atomic { savings = savings + 50; }\n    } else {\n        __transaction_atomic { total = checking + savings; }\n        printf(\"%d\\n\", total);\n    }\n}\n",
+            b"",
+            b"// Thread 0 moves 50 in one transaction. Thread 1 counts the money, and finds all of it.\nint checking = 120, savings = 40;\n\nvoid worker(int self) {\n    int total;\n    if (self == 0) {\n        __transaction_atomic {\n            checking = checking - 50;\n            savings = savings + 50;\n        }\n    } else {\n        __transaction_atomic { total = checking + savings; }\n        printf(\"%d\\n\", total);\n    }\n}\n",
+            b"== not an outcome of examples/audit_mended.c --order 0,1,0\n== thread 0: ended\n== thread 1: ended\n110\n== memory\nchecking = 70\nsavings = 90\n",
+        ),
+        (
+            "txc outcomes examples/audit_mended.c --threads 2 --refines examples/audit.c",
+            b"// Thread 0 moves 50 in one transaction. Thread 1 counts the money, and finds all of it.\nint checking = 120, savings = 40;\n\nvoid worker(int self) {\n    int total;\n    if (self == 0) {\n        __transaction_atomic {\n            checking = checking - 50;\n            savings = savings + 50;\n        }\n    } else {\n        __transaction_atomic { total = checking + savings; }\n        printf(\"%d\\n\", total);\n    }\n}\n",
+            b"",
+            b"// Thread 0 moves 50 in two transactions. Thread 1 counts the money, and can find that 50 are missing.\nint checking = 120, savings = 40;\n\nvoid worker(int self) {\n    int total;\n    if (self == 0) {\n        __transaction_atomic { checking = checking - 50; }\n        __transaction_atomic { savings = savings + 50; }\n    } else {\n        __transaction_atomic { total = checking + savings; }\n        printf(\"%d\\n\", total);\n    }\n}\n",
+            b"== refines examples/audit.c: outcomes 1 of 2\n",
+        ),
+        (
+            "txc outcomes examples/seats.c --threads 2 --refines examples/seats_mended.c",
+            b"// One seat and two buyers. Each looks first and buys then, in two transactions: the seat can be sold twice.\nint seats = 1, sold;\n\nvoid worker(int self) {\n    int free;\n    __transaction_atomic { free = seats > 0; }\n    if (free) {\n        __transaction_atomic {\n            seats = seats - 1;\n            sold = sold + 1;\n        }\n    }\n}\n",
+            b"",
+            b"// One seat and two buyers, each of whom looks and buys in one transaction: the seat is sold once.\nint seats = 1, sold;\n\nvoid worker(int self) {\n    __transaction_atomic {\n        if (seats > 0) {\n            seats = seats - 1;\n            sold = sold + 1;\n        }\n    }\n}\n",
+            b"== not an outcome of examples/seats_mended.c --order 0,1,0,1\n== thread 0: ended\n== thread 1: ended\n== memory\nseats = -1\nsold = 2\n",
+        ),
+        (
+            "txc outcomes examples/seats_mended.c --threads 2 --refines examples/seats.c",
+            b"// One seat and two buyers, each of whom looks and buys in one transaction: the seat is sold once.\nint seats = 1, sold;\n\nvoid worker(int self) {\n    __transaction_atomic {\n        if (seats > 0) {\n            seats = seats - 1;\n            sold = sold + 1;\n        }\n    }\n}\n",
+            b"",
+            b"// One seat and two buyers. Each looks first and buys then, in two transactions: the seat can be sold twice.\nint seats = 1, sold;\n\nvoid worker(int self) {\n    int free;\n    __transaction_atomic { free = seats > 0; }\n    if (free) {\n        __transaction_atomic {\n            seats = seats - 1;\n            sold = sold + 1;\n        }\n    }\n}\n",
+            b"== refines examples/seats.c: outcomes 1 of 2\n",
+        ),
+        (
             "txc replay examples/booking.c --schedule examples/schedules/booking.txt",
             b"// A cancel of an inner transaction undoes the inner one alone: who finds no seat in the train takes one in the bus, and what the\n// outer transaction wrote before stays. Each thread books twice.\nint train = 1, bus = 9, asked, by_train, by_bus;\n\nvoid worker(int self) {\n    int i;\n    for (i = 0; i < 2; i++) {\n        __transaction_atomic {\n            int seated = 0;\n            asked = asked + 1;\n            __transaction_atomic {\n                train = train - 1;\n                by_train = by_train + 1;\n                if (train < 0) __transaction_cancel;\n                seated = 1;\n            }\n            if (!seated) {\n                bus = bus - 1;\n                by_bus = by_bus + 1;\n            }\n        }\n    }\n}\n",
             b"0 a100\n",
@@ -520,6 +659,12 @@ fn second_transcripts() -> &'static [Transcript] {
             b"",
             b"== events\n3 0 commit\n18 0 commit\n24 0 commit\n39 0 commit\n42 0 commit\n45 0 commit\n45 1 commit\n48 1 commit\n51 1 commit\n54 1 commit\n== thread 0: ended\n2 taken, 0 left\n== thread 1: ended\n0 taken, 0 left\n== memory\nqueue = 7 9\nhead = 2\ntotal = 16\n",
         ),
+    ];
+    &ROWS
+}
+
+fn fourth_transcripts() -> &'static [Transcript] {
+    static ROWS: [Transcript; 18] = [
         (
             "txc replay examples/first.c --seed 1 --steps 17 --timeline",
             b"int x = 40, y; void worker(int self) { __transaction_atomic { x = x + 2; y = x - 1; } }\n",
@@ -527,12 +672,6 @@ fn second_transcripts() -> &'static [Transcript] {
             b"",
             b"== timeline\n1 0 0 begin >10; load lock = 0\n2 0 1 rd r1 @0; load @0 = 40\n3 0 1 rd r1 @0; load lock = 0\n3 0 2 const r2 #2\n3 0 3 add.s r1 r1 r2\n3 0 4 wr @0 r1\n3 0 5 rd r1 @0\n3 0 6 const r2 #1\n3 0 7 sub.s r1 r1 r2\n3 0 8 wr @1 r1\n4 0 9 commit; swap lock 0: won\n5 0 9 commit; store @0 = 42\n6 0 9 commit; store @1 = 41\n7 0 9 commit; store lock = 2; commit\n7 0 10 ret\n7 0 ended\n7 0 ended\n== events\n7 0 commit\n== thread 0: ended\n== memory\nx = 42\ny = 41\n",
         ),
-    ];
-    &ROWS
-}
-
-fn third_transcripts() -> &'static [Transcript] {
-    static ROWS: [Transcript; 18] = [
         (
             "txc replay examples/overflow.c --seed 1 --steps 12 --timeline",
             b"// A sum that leaves the range of `int` is trap 1: the thread ends, and nothing of the transaction is left.\nint total = 2147483647, entries = 5;\n\nvoid worker(int self) {\n    __transaction_atomic {\n        entries = entries + 1;\n        total = total + 1;\n    }\n}\n",
@@ -652,6 +791,12 @@ fn third_transcripts() -> &'static [Transcript] {
             b"",
             b"== thread 0: ended\n1543209862 dollars, 65 cents\n1033830044 dollars, 70 cents\n791526127 dollars, 98 cents\n== thread 1: ended\n1350308629 dollars, 82 cents\n1181520051 dollars, 9 cents\n904601289 dollars, 12 cents\n== memory\nfund = 554068289587\npaid = 680499600536\npayments = 6\n",
         ),
+    ];
+    &ROWS
+}
+
+fn fifth_transcripts() -> &'static [Transcript] {
+    static ROWS: [Transcript; 7] = [
         (
             "txc source examples/hashset.c --threads 2 --order 0,1,0,1,0,1,0,1",
             b"// A set of numbers in a table of 16 places, without a lock of its own: each insertion is one step.\nint place[16], count;\n\nint insert(int key) {\n    int at = key * 7 & 15, added = 0;\n    __transaction_atomic {\n        while (place[at] != 0 && place[at] != key) at = at + 1 & 15;\n        if (place[at] == 0) {\n            place[at] = key;\n            count = count + 1;\n            added = 1;\n        }\n    }\n    return added;\n}\n\nvoid worker(int self) {\n    int i, added = 0;\n    for (i = 1; i <= 4; i++) added = added + insert(i * (self + 1));\n    printf(\"%d added\\n\", added);\n}\n",
@@ -659,12 +804,6 @@ fn third_transcripts() -> &'static [Transcript] {
             b"",
             b"== thread 0: ended\n2 added\n== thread 1: ended\n4 added\n== memory\nplace = 0 0 0 0 0 3 0 1 8 0 6 0 4 0 2 0\ncount = 6\n",
         ),
-    ];
-    &ROWS
-}
-
-fn fourth_transcripts() -> &'static [Transcript] {
-    static ROWS: [Transcript; 6] = [
         (
             "txc source examples/queue.c --threads 2 --order 0,0,1,1,1,1,1,1,1,1,1,1,1,0,0,0,0,0",
             b"// A bounded queue: one transaction puts or takes, and a cancel undoes what does not fit.\nint slots[4], head, count, refused;\n\nint put(int value) {\n    int done = 0;\n    __transaction_atomic {\n        slots[(head + count) % 4] = value;\n        count++;\n        if (count > 4) __transaction_cancel;\n        done = 1;\n    }\n    return done;\n}\n\nvoid worker(int self) {\n    int i;\n    for (i = 1; i <= 6; i++) {\n        if (!put(i * i)) {\n            __transaction_atomic { refused++; }\n        }\n    }\n    __transaction_relaxed {\n        printf(\"%d waiting, %d refused\\n\", count, refused);\n        while (count > 0) {\n            printf(\"%d \", slots[head]);\n            head = (head + 1) % 4;\n            count--;\n        }\n    }\n    printf(\"\\n\");\n}\n",
@@ -778,6 +917,14 @@ fn third_transcripts_show_what_they_should(rt: HostRuntime) {
 fn fourth_transcripts_show_what_they_should(rt: HostRuntime) {
     assert_eq!(rt;
         wrong_transcript(&rt, rt.alloc(), fourth_transcripts()),
+        None
+    );
+}
+
+#[test]
+fn fifth_transcripts_show_what_they_should(rt: HostRuntime) {
+    assert_eq!(rt;
+        wrong_transcript(&rt, rt.alloc(), fifth_transcripts()),
         None
     );
 }

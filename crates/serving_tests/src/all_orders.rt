@@ -282,18 +282,19 @@ fn lists_outcomes(rt: HostRuntime) {
 }
 
 /// Threads that each add 40 times.
-const MANY: &[u8] =
-    b"int x; void worker(int self) { int i; for (i = 0; i < 40; i++) __transaction_atomic { x = x + 1; } }";
+pub(crate) const MANY: &str =
+    "int x; void worker(int self) { int i; for (i = 0; i < 40; i++) __transaction_atomic { x = x + 1; } }";
 
 #[test]
 fn shows_how_far_it_is(rt: HostRuntime) {
     let line = "txc outcomes a.c --threads 2";
     let told =
         b"== outcome --order 0,0,0,0,0,0,0,0,0,0,0,0,0,0,0,0,0,0,0,0,0,0,0,0,0,0,0,0,0,0,0,0,0,0,0,0,0,0,0,0,1,1,1,1,1,1,1,1,1,1,1,1,1,1,1,1,1,1,1,1,1,1,1,1,1,1,1,1,1,1,1,1,1,1,1,1,1,1,1,1\n== thread 0: ended\n== thread 1: ended\n== memory\nx = 80\n== outcomes: 1, stuck: 0, states: 1681\n".as_slice();
+    let many = MANY.as_bytes();
     let shown =
         b"\rtxc: 1000 states\r                                                            \r".as_slice();
-    assert!(rt; answers(&rt, rt.alloc(), line, MANY, b"", false, (0, told, b"")));
-    assert!(rt; answers(&rt, rt.alloc(), line, MANY, b"", true, (0, told, shown)));
+    assert!(rt; answers(&rt, rt.alloc(), line, many, b"", false, (0, told, b"")));
+    assert!(rt; answers(&rt, rt.alloc(), line, many, b"", true, (0, told, shown)));
 }
 
 /// Sources with their numbers of threads, and how many outcomes there are.

@@ -8,6 +8,7 @@ use std::io;
 use std::io::{ErrorKind, Write};
 use std::sync::Wait;
 use std::thread::Threads;
+use std::time::Clock;
 use test_serving::{ADDS, ServeResult, request_of};
 
 /// The three files that there are.
@@ -289,7 +290,7 @@ fn rows() -> &'static [Row] {
 }
 
 /// What a command line is answered over three files: the status, and what is told.
-fn answer<H: Threads + Wait + Sync, W: Write>(
+fn answer<H: Threads + Wait + Clock + Sync, W: Write>(
     rt: &H,
     alloc: Global,
     line: &str,
@@ -304,7 +305,7 @@ fn answer<H: Threads + Wait + Sync, W: Write>(
 }
 
 /// Whether a row is answered as it should be.
-fn is_answered<H: Threads + Wait + Sync>(rt: &H, alloc: Global, row: &Row) -> bool {
+fn is_answered<H: Threads + Wait + Clock + Sync>(rt: &H, alloc: Global, row: &Row) -> bool {
     let (line, source, order, report, wanted) = *row;
     let files = ThreeFiles {
         source,
@@ -321,7 +322,7 @@ fn is_answered<H: Threads + Wait + Sync>(rt: &H, alloc: Global, row: &Row) -> bo
 }
 
 /// The number, from 0, of the first row that is answered otherwise.
-fn wrong_claim<H: Threads + Wait + Sync>(rt: &H, alloc: Global) -> Option<usize> {
+fn wrong_claim<H: Threads + Wait + Clock + Sync>(rt: &H, alloc: Global) -> Option<usize> {
     for (number, row) in rows().iter().enumerate() {
         if !is_answered(rt, alloc, row) {
             return Some(number);
@@ -363,7 +364,7 @@ fn wrong_words() -> &'static [(&'static str, &'static [u8])] {
 }
 
 /// The first command line that is told otherwise.
-fn told_otherwise<H: Threads + Wait + Sync>(rt: &H, alloc: Global) -> Option<&'static str> {
+fn told_otherwise<H: Threads + Wait + Clock + Sync>(rt: &H, alloc: Global) -> Option<&'static str> {
     let files = ThreeFiles {
         source: NONE,
         order: NONE,
@@ -389,7 +390,7 @@ fn standard_input_is_one_file(rt: HostRuntime) {
 }
 
 /// What is answered where standard output takes nothing.
-fn answer_closed<H: Threads + Wait + Sync>(rt: &H, alloc: Global, report: Found) -> u8 {
+fn answer_closed<H: Threads + Wait + Clock + Sync>(rt: &H, alloc: Global, report: Found) -> u8 {
     let files = ThreeFiles {
         source: Ok(ADDS),
         order: Ok(b"0,1"),

@@ -6,6 +6,7 @@ use crate::served::Closed;
 use std::alloc::Global;
 use std::sync::Wait;
 use std::thread::Threads;
+use std::time::Clock;
 use test_serving::ADDS;
 
 /// A command line, what is found of the files `a.c` and `s.txt`, whether standard output is closed, the exit status, and
@@ -102,7 +103,7 @@ fn rows() -> &'static [Row] {
 }
 
 /// Answers a row's command line, and tells what is wrong.
-fn answer<H: Threads + Wait + Sync>(
+fn answer<H: Threads + Wait + Clock + Sync>(
     rt: &H,
     alloc: Global,
     row: &Row,
@@ -121,7 +122,7 @@ fn answer<H: Threads + Wait + Sync>(
 }
 
 /// Whether a row's text is told, and nothing else, where standard error is no terminal.
-fn is_told<H: Threads + Wait + Sync>(rt: &H, alloc: Global, row: &Row) -> bool {
+fn is_told<H: Threads + Wait + Clock + Sync>(rt: &H, alloc: Global, row: &Row) -> bool {
     let mut told = Told {
         bytes: Vec::new(alloc),
         is_terminal: false,
@@ -131,7 +132,7 @@ fn is_told<H: Threads + Wait + Sync>(rt: &H, alloc: Global, row: &Row) -> bool {
 }
 
 /// The command line of the first row whose text is not told.
-fn told_otherwise<H: Threads + Wait + Sync>(rt: &H, alloc: Global) -> Option<&'static str> {
+fn told_otherwise<H: Threads + Wait + Clock + Sync>(rt: &H, alloc: Global) -> Option<&'static str> {
     for row in rows() {
         if !is_told(rt, alloc, row) {
             return Some(row.0);

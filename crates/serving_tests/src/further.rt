@@ -10,7 +10,7 @@ type Row = (&'static str, &'static [u8], bool, ServeResult<'static>);
 
 /// The rows stand in a function, so that no proof but its own looks at them.
 fn rows() -> &'static [Row] {
-    static ROWS: [Row; 17] = [
+    static ROWS: [Row; 18] = [
         // nothing is told where nobody asks and no terminal is there
         (
             "txc check a.c",
@@ -68,6 +68,16 @@ fn rows() -> &'static [Row] {
                 0,
                 b"accepted\n",
                 b"a.c:1:62: warning: no other thread can end this wait [endless-wait]\n",
+            ),
+        ),
+        (
+            "txc check a.c --format json --warn",
+            b"int x; void worker(int self) { int f; __transaction_atomic { f = x > 0; } if (f) { __transaction_atomic { x = x - 1; } } }",
+            true,
+            (
+                0,
+                b"accepted\n",
+                b"{\"file\":\"a.c\",\"line\":1,\"column\":66,\"end_line\":1,\"end_column\":67,\"warning\":\"stale-read\",\"message\":\"another transaction writes by what is read here\",\"other_line\":1,\"other_column\":107,\"other_end_line\":1,\"other_end_column\":108,\"notes\":[\"it is written at 1:107\",\"between the two another thread may change it: read it again where it is written, and try txc outcomes\"]}\n",
             ),
         ),
         // other commands tell nothing

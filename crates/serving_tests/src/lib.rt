@@ -8,6 +8,8 @@ mod beside;
 #[cfg(test)]
 mod certified;
 #[cfg(test)]
+mod compared;
+#[cfg(test)]
 mod fixed;
 #[cfg(test)]
 mod further;
@@ -22,8 +24,12 @@ mod opened;
 #[cfg(test)]
 mod places;
 #[cfg(test)]
+mod properties;
+#[cfg(test)]
 mod refusals;
 #[cfg(test)]
 mod served;
+#[cfg(test)]
+mod timed;
 #[cfg(test)]
 mod wide;

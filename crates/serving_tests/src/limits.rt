@@ -85,6 +85,32 @@ fn memory_has_a_limit(rt: HostRuntime) {
     assert_eq!(rt; wrong_row(&rt, rt.alloc(), rows()), None);
 }
 
+#[test]
+fn it_is_told_what_lets_a_walk_go_on(rt: HostRuntime) {
+    let alloc = rt.alloc();
+    let at_limit = (
+        4,
+        b"== outcomes: 0, stuck: 0, states: 1, stopped at the limit\n".as_slice(),
+        b"txc: --limit L is how many states it looks at\n".as_slice(),
+    );
+    let line = "txc outcomes a.c --threads 2 --limit 1";
+    assert!(rt; answers(&rt, alloc, line, TWICE, b"", true, at_limit));
+    let at_steps = (
+        4,
+        b"== outcomes: 0, stuck: 0, states: 1, stopped at the steps\n".as_slice(),
+        b"txc: --steps N is how many steps a thread may make in one turn\n".as_slice(),
+    );
+    let line = "txc outcomes a.c --verbose";
+    assert!(rt; answers(&rt, alloc, line, WAITS, b"", false, at_steps));
+    let at_memory = (
+        4,
+        b"== outcomes: 0, stuck: 0, states: 3, stopped at the memory\n".as_slice(),
+        b"txc: --memory MB is how much memory states and list may take\n".as_slice(),
+    );
+    let line = "txc outcomes a.c --threads 2 --memory 0";
+    assert!(rt; answers(&rt, alloc, line, TWICE, b"", true, at_memory));
+}
+
 /// A run of 20,000,000 steps shows where it is once, and takes the line away.
 #[test]
 fn a_run_shows_how_far_it_is(rt: HostRuntime) {

@@ -6,6 +6,7 @@ use std::io;
 use std::io::{ErrorKind, IsTerminal, Read, Write};
 use std::sync::Wait;
 use std::thread::Threads;
+use std::time::Clock;
 use test_serving::{ADDS, ServeResult};
 
 /// What is found of a file's name: the bytes of the file, or why it is not opened.
@@ -84,6 +85,8 @@ const TIMELINE: &str = "txc replay a.c --timeline --schedule s.txt";
 
 const RUN: &str = "txc run a.c";
 
+const REFINES: &str = "txc outcomes a.c --refines s.txt";
+
 pub(crate) const NONE: Found = Err(ErrorKind::NotFound);
 
 pub(crate) const REFUSED: Found = Err(ErrorKind::OutOfMemory);
@@ -91,7 +94,7 @@ pub(crate) const REFUSED: Found = Err(ErrorKind::OutOfMemory);
 const OUT_OF_MEMORY: ServeResult<'static> = (4, b"", b"txc: out of memory\n");
 
 fn rows() -> &'static [Row] {
-    static ROWS: [Row; 13] = [
+    static ROWS: [Row; 18] = [
         // words that make no request open no file
         (
             "txc run a.c --threads 65",
@@ -189,13 +192,51 @@ fn rows() -> &'static [Row] {
             false,
             (1, b"", b"txc: fault 28 at 1:7: no worker\n"),
         ),
+        // what outcomes are compared with is opened before the source is read
+        (
+            REFINES,
+            NONE,
+            NONE,
+            false,
+            (2, b"", b"txc: cannot read a.c\n"),
+        ),
+        (
+            REFINES,
+            Ok(b"int"),
+            NONE,
+            false,
+            (2, b"", b"txc: cannot read s.txt\n"),
+        ),
+        (REFINES, Ok(ADDS), REFUSED, false, OUT_OF_MEMORY),
+        // and both are read
+        (
+            "txc outcomes a.c --expect s.txt",
+            Ok(ADDS),
+            Ok(
+                b"== outcome --order 0\n== thread 0: ended\n== memory\nx = 1\n== outcomes: 1, stuck: 0, states: 2\n",
+            ),
+            false,
+            (0, b"as expected\n", b""),
+        ),
+        // it is said whose fault it is
+        (
+            REFINES,
+            Ok(ADDS),
+            Ok(b"int x;"),
+            true,
+            (
+                1,
+                b"",
+                b"txc: fault 28 at 1:7: no worker\nint x;\n      ^\nthread T runs worker(T), written void worker(int self)\ntxc explain 28 says more\ntxc: that is of s.txt\n",
+            ),
+        ),
     ];
     &ROWS
 }
 
 /// Answers a command line, in which a space ends each word but the last. Gives the exit status, if there was memory for
 /// the words.
-pub(crate) fn answer_line<H: Threads + Wait + Sync, W: Write>(
+pub(crate) fn answer_line<H: Threads + Wait + Clock + Sync, W: Write>(
     rt: &H,
     alloc: Global,
     line: &str,
@@ -208,7 +249,7 @@ pub(crate) fn answer_line<H: Threads + Wait + Sync, W: Write>(
 }
 
 /// Whether a row is answered as it should be.
-fn is_answered<H: Threads + Wait + Sync>(rt: &H, alloc: Global, row: &Row) -> bool {
+fn is_answered<H: Threads + Wait + Clock + Sync>(rt: &H, alloc: Global, row: &Row) -> bool {
     let (line, source, schedule, is_terminal, wanted) = *row;
     let files = TwoFiles { source, schedule };
     let mut out = Vec::new(alloc);
@@ -221,7 +262,7 @@ fn is_answered<H: Threads + Wait + Sync>(rt: &H, alloc: Global, row: &Row) -> bo
 }
 
 /// The number, from 0, of the first row that is answered otherwise.
-fn wrong_files<H: Threads + Wait + Sync>(rt: &H, alloc: Global) -> Option<usize> {
+fn wrong_files<H: Threads + Wait + Clock + Sync>(rt: &H, alloc: Global) -> Option<usize> {
     for (number, row) in rows().iter().enumerate() {
         if !is_answered(rt, alloc, row) {
             return Some(number);
@@ -236,7 +277,12 @@ fn files_are_opened_in_turn(rt: HostRuntime) {
 }
 
 /// Whether a command line prints what begins so, and nothing is told.
-fn begins_with<H: Threads + Wait + Sync>(rt: &H, alloc: Global, line: &str, first: &[u8]) -> bool {
+fn begins_with<H: Threads + Wait + Clock + Sync>(
+    rt: &H,
+    alloc: Global,
+    line: &str,
+    first: &[u8],
+) -> bool {
     let files = TwoFiles {
         source: NONE,
         schedule: NONE,

@@ -23,7 +23,7 @@ pub struct Served {
 /// What is answered: the status, the output and the standard error.
 pub type ServeResult<'a> = (u8, &'a [u8], &'a [u8]);
 
-/// A command line, the source and the schedule of its files, and what is answered.
+/// A command line, the source and the other file that it reads, and what is answered.
 pub type Row = (
     &'static str,
     &'static [u8],
@@ -83,17 +83,18 @@ pub fn serve_claim<H: Threads + Wait + Sync, R: Read + Drop, S: Read + Drop, Q: 
     Served { status, out, err }
 }
 
-/// What is served to a command line, on a terminal or not.
+/// What is served to a command line, on a terminal or not. The other file is a schedule, or what outcomes are compared
+/// with.
 pub fn serve_line<H: Threads + Wait + Sync>(
     rt: &H,
     alloc: Global,
     line: &str,
     source: &[u8],
-    schedule: &[u8],
+    other: &[u8],
     is_terminal: bool,
 ) -> Option<Served> {
     match request_of(alloc, line) {
-        Ok(request) => Some(serve_bytes(rt, alloc, &request, source, schedule, is_terminal)),
+        Ok(request) => Some(serve_claim(rt, alloc, &request, source, other, other, is_terminal)),
         Err(_) => None,
     }
 }

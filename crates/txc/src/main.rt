@@ -10,6 +10,7 @@ use std::io::{ErrorKind, Read, Stdin};
 use std::process::ExitCode;
 use std::sync::Wait;
 use std::thread::Threads;
+use std::time::Clock;
 use std::{env, io};
 
 fn main(rt: HostRuntime) -> ExitCode {
@@ -17,7 +18,7 @@ fn main(rt: HostRuntime) -> ExitCode {
 }
 
 /// Reads the command line and does what it asks; `handle` starts threads and waits for them. Gives the exit status.
-fn answer<H: Threads + Wait + Sync>(rt: &HostRuntime, handle: &H) -> u8 {
+fn answer<H: Threads + Wait + Clock + Sync>(rt: &HostRuntime, handle: &H) -> u8 {
     match env::args(rt) {
         Ok(words) => match words.collect(rt.alloc()) {
             Ok(words) => answer_words(rt, handle, words),
@@ -28,7 +29,11 @@ fn answer<H: Threads + Wait + Sync>(rt: &HostRuntime, handle: &H) -> u8 {
 }
 
 /// Does what words ask, with the files of the system and the standard streams.
-fn answer_words<H: Threads + Wait + Sync>(rt: &HostRuntime, handle: &H, words: Vec<String>) -> u8 {
+fn answer_words<H: Threads + Wait + Clock + Sync>(
+    rt: &HostRuntime,
+    handle: &H,
+    words: Vec<String>,
+) -> u8 {
     let words: Result<Vec<&str>, AllocError> = words
         .iter()
         .map(|word| word.as_str())

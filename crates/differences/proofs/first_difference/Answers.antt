@@ -1,4 +1,4 @@
-use Rattle.std.proofs.Common.{◌≡◌, ◌≢◌, take, sym, subst, arith, rules}
+use Rattle.std.proofs.Common.{◌≡◌, take, subst, arith, rules}
 use Rattle.differences.proofs.Firsts.{ends_first, one_more_same, seen}
 use Rattle.differences.proofs.first_difference.Goals as goal
 

@@ -2,7 +2,5 @@ use Rattle.command.proofs.line.outcomes.Goals as goal
 
 pub returns : goal.returns
 returns c =
-    let one = c.with-command.ensures _ _ c.of_file-command.ensures c.threads.ensures.rule c.threads.ensures.global in
-    let two = c.with-command-2.ensures _ _ one c.text-steps.ensures.rule c.text-steps.ensures.global in
-    let three = c.with-command-3.ensures _ _ two c.text-limit.ensures.rule c.text-limit.ensures.global in
-    c.with.ensures _ _ three c.text-memory.ensures.rule c.text-memory.ensures.global
+    let one = c.with-command.ensures _ _ c.outcome_states-command.ensures c.text-always.ensures.rule c.text-always.ensures.global in
+    c.with.ensures _ _ one c.text-last.ensures.rule c.text-last.ensures.global

@@ -1,0 +1,82 @@
+//! With what outcomes are compared.
+
+ghost use Rattle.std.specs.Prelude.{◌≡◌, IfOk, IfErr, None, codes, false, string_bytes, true};
+ghost use Rattle.clap.specs.Words.{Text, first_of, found_of, rows_of};
+ghost use Rattle.command.specs.Asked.{AreUncompared, IsAgainst, IsComparison, IsGivenAlone};
+ghost use Rattle.command.specs.declared.request.Against.{Against};
+ghost use Rattle.command.specs.declared.request.Comparison.{Comparison};
+ghost use Rattle.command.specs.inner.Refusals.{IsOwn};
+
+use crate::claim::file_given;
+use crate::given::{text_given, wrong};
+use crate::request::{Against, Comparison, UsageFault};
+use crate::task::{number, threads};
+use clap::ArgMatches;
+use std::alloc::Global;
+
+/// Whether a text is given for an argument.
+fn has_text(given: &ArgMatches<'_>, id: &str) -> bool
+    ensures yes { result ≡ true → first_of id.now (rows_of (found_of given.now)) ≡ None → ⊥ }
+    ensures no { result ≡ false → first_of id.now (rows_of (found_of given.now)) ≡ None }
+{
+    text_given(given, id).is_some()
+}
+
+/// Whether a command compares outcomes.
+pub(crate) fn compares(name: &str, given: &ArgMatches<'_>) -> bool
+    ensures named { result ≡ true → name.now ≡ codes "outcomes" }
+    ensures yes { result ≡ true → AreUncompared (rows_of (found_of given.now)) → ⊥ }
+    ensures no { result ≡ false → name.now ≡ codes "outcomes" → AreUncompared (rows_of (found_of given.now)) }
+{
+    name == "outcomes" && (has_text(given, "refines") || has_text(given, "expect"))
+}
+
+/// The file that is given for one of two arguments, where none is for the other and the source isn't standard input too.
+fn given_alone(
+    alloc: Global,
+    given: &ArgMatches<'_>,
+    id: &str,
+    other: &str,
+    why: &str,
+) -> Result<String, UsageFault>
+    ensures ok { IfOk result (λ s. IsGivenAlone (rows_of (found_of given.now)) id.now other.now (string_bytes s)) }
+    ensures err { IfErr result (IsOwn ((file : Text)
+        → IsGivenAlone (rows_of (found_of given.now)) id.now other.now file → ⊥)) }
+{
+    if has_text(given, other) {
+        return Err(wrong(alloc, "one of --refines and --expect"));
+    }
+    file_given(alloc, given, id, why)
+}
+
+/// With what outcomes are compared, where they are.
+fn against(alloc: Global, given: &ArgMatches<'_>) -> Result<Against, UsageFault>
+    ensures ok { IfOk result (IsAgainst (rows_of (found_of given.now))) }
+    ensures err { IfErr result (IsOwn ((a : Against) → IsAgainst (rows_of (found_of given.now)) a → ⊥)) }
+{
+    if has_text(given, "refines") {
+        let why = "FILE and B can't both be -";
+        Ok(Against::Refined {
+            file: given_alone(alloc, given, "refines", "expect", why)?,
+        })
+    } else {
+        let why = "FILE and LIST can't both be -";
+        Ok(Against::Expected {
+            file: given_alone(alloc, given, "expect", "refines", why)?,
+        })
+    }
+}
+
+/// How outcomes are compared, where they are.
+pub(crate) fn comparison(alloc: Global, given: &ArgMatches<'_>) -> Result<Comparison, UsageFault>
+    ensures ok { IfOk result (IsComparison (rows_of (found_of given.now))) }
+    ensures err { IfErr result (IsOwn ((c : Comparison) → IsComparison (rows_of (found_of given.now)) c → ⊥)) }
+{
+    Ok(Comparison {
+        threads: threads(alloc, given)?,
+        steps: number(alloc, given, "steps", 1000000, 0, u32::MAX)?,
+        limit: number(alloc, given, "limit", 1000000, 0, u32::MAX)?,
+        memory: number(alloc, given, "memory", 1024, 0, u32::MAX)?,
+        against: against(alloc, given)?,
+    })
+}

@@ -1,0 +1,4 @@
+-- outcomes that show what others do
+mod Among
+-- pieces of a text
+mod Pieces

@@ -1,0 +1,8 @@
+-- Pieces of a text, each put behind those before.
+use Rattle.std.proofs.Common.{◌≡◌, ℕ, List, [], ◌++◌, append_assoc}
+
+pub six_joined : (a b c d e f one two three four five six : List ℕ) → one ≡ [] ++ a → two ≡ one ++ b → three ≡ two ++ c → four ≡ three ++ d → five ≡ four ++ e → six ≡ five ++ f → six ≡ (a ++ b ++ c) ++ d ++ e ++ f
+six_joined a b c d e f one two three four five six first second third fourth fifth sixth = rw (sixth, fifth, fourth, third, second, first) (simp append_assoc)
+
+pub seven_joined : (a b c d e f g one two three four five six seven : List ℕ) → one ≡ [] ++ a → two ≡ one ++ b → three ≡ two ++ c → four ≡ three ++ d → five ≡ four ++ e → six ≡ five ++ f → seven ≡ six ++ g → seven ≡ a ++ b ++ c ++ d ++ e ++ f ++ g
+seven_joined a b c d e f g one two three four five six seven first second third fourth fifth sixth seventh = rw (seventh, sixth, fifth, fourth, third, second, first) (simp append_assoc)

@@ -1,0 +1,182 @@
+-- What a status says of properties.
+use Rattle.std.proofs.Common.{◌≡◌, ◌≢◌, ◌⊎◌, inl, inr, ℕ, Bool, true, false, List, [], ◌∷◌, ◌++◌, ◌<◌, All, Contains, Option, None, Some, map, length, get_or, ap, refl, sym, subst, arith}
+use Rattle.std.specs.Prelude.{◌||◌, IfSome}
+use Rattle.std.specs.List.{list_any}
+use Rattle.std.specs.Io.KnownBytes.{Appends}
+use Rattle.std.proofs.lemmas.List.{get_or-map, length-map}
+use Rattle.std.proofs.lemmas.List.Elements.{All-append, All-contains, All-map, Contains-append_left, Contains-append_right}
+use Rattle.syntax.specs.Tree.{Program}
+use Rattle.syntax.specs.Grammar.{ParsedSource}
+use Rattle.separation.specs.Touching.{IsAccepted}
+use Rattle.meaning.specs.InOrder.{IsFaultOfOrder}
+use Rattle.meaning.specs.declared.outcome.MeaningFault.{MeaningFault}
+use Rattle.meaning.specs.declared.outcome.MeaningFault.TheVariants as fault
+use Rattle.command.specs.declared.request.Questions.{Questions}
+use Rattle.report.specs.OutcomeList.{ReportedOrder}
+use Rattle.report.specs.Properties.{Finding, Property, properties_text}
+use Rattle.report.specs.PropertyViews.{property_of}
+use Rattle.report.specs.declared.outcome_list.WalkEnd.{WalkEnd}
+use Rattle.report.specs.declared.outcome_list.WalkEnd.TheVariants.{Whole}
+use Rattle.report.specs.declared.properties.Property.{Property as Own}
+use Rattle.serving.specs.Checks.{IsSourceOf}
+use Rattle.serving.specs.Limits.{HasNoCode}
+use Rattle.serving.specs.Askable.{IsAskable}
+use Rattle.serving.specs.Properties.{AnswersQuestions, AreAnswered, AreAskable, AreFoundOfText, HasUnaskable, IsAsked, IsTextOfProperties, IsToldOf, IsUnaskable, TellsProperties, asked_by, asked_each, has_failed, has_unheld}
+use Rattle.serving.specs.Refusals.{IsRefused}
+use Rattle.serving.specs.Written.{WritesPart}
+use Rattle.serving.specs.inner.Properties.{AreThese}
+use Rattle.serving.proofs.Parts.{part_so}
+use Rattle.serving.proofs.Refusals.{refused_text, unread_refused}
+
+-- ---- what was found by one definition was found by another
+
+module _ (Is Are : WalkEnd → List Property → List ReportedOrder → Type 0) (so : (end : WalkEnd) (ps : List Property) (ss : List ReportedOrder) → Is end ps ss → Are end ps ss) where
+  pub tells_so : (status : ℕ) (old new : Option (List ℕ)) → TellsProperties Is status old new → TellsProperties Are status old new
+  tells_so status old new tells = record {
+    held = λ e. let h = tells.held e in (h.0, so Whole h.0 [] h.1, h.2, h.3);
+    failed = λ e. let f = tells.failed e in (f.0, f.1, f.2, so f.2 f.0 f.1 f.3, f.4, f.5);
+  }
+
+  pub text_so : (written : List ℕ) → IsTextOfProperties Is written → IsTextOfProperties Are written
+  text_so written is = (is.0, is.1, is.2, so is.2 is.0 is.1 is.3, is.4)
+
+  pub parts_so : (old new : Option (List ℕ)) → WritesPart (IsTextOfProperties Is) old new → WritesPart (IsTextOfProperties Are) old new
+  parts_so old new = part_so (IsTextOfProperties Is) (IsTextOfProperties Are) old new text_so
+
+-- of an accepted program, and of the text that spells it
+module _ (questions : Questions) (text : List ℕ) (source : ParsedSource) (spelled : IsSourceOf text source) (accepted : ∥ IsAccepted source.program ∥₁) where
+  abbrev pub Theirs : WalkEnd → List Property → List ReportedOrder → Type 0
+  Theirs = AreAnswered source.program questions.threads questions.steps (asked_by questions)
+
+  found_of_text : (end : WalkEnd) (ps : List Property) (ss : List ReportedOrder) → Theirs end ps ss → AreFoundOfText questions text end ps ss
+  found_of_text end ps ss are = record { source = source; spelled = spelled; accepted = accepted; are = are }
+
+  pub answers_text : (status : ℕ) (old new : Option (List ℕ)) → TellsProperties Theirs status old new → AnswersQuestions questions text status old new
+  answers_text status old new = tells_so Theirs (AreFoundOfText questions text) found_of_text status old new
+
+  pub writes_text : (old new : Option (List ℕ)) → WritesPart (IsTextOfProperties Theirs) old new → WritesPart (IsToldOf questions text) old new
+  writes_text old new = parts_so Theirs (AreFoundOfText questions text) found_of_text old new
+
+-- of names that are the same
+module _ (p : Program) (count steps : ℕ) (asked names : List IsAsked) where
+  pub answers_asked : (status : ℕ) (old new : Option (List ℕ)) → asked ≡ names → TellsProperties (AreAnswered p count steps asked) status old new → TellsProperties (AreAnswered p count steps names) status old new
+  answers_asked status old new same = subst (λ xs. TellsProperties (AreAnswered p count steps xs) status old new) same
+
+  pub writes_asked : (old new : Option (List ℕ)) → asked ≡ names → WritesPart (IsTextOfProperties (AreAnswered p count steps asked)) old new → WritesPart (IsTextOfProperties (AreAnswered p count steps names)) old new
+  writes_asked old new same = subst (λ xs. WritesPart (IsTextOfProperties (AreAnswered p count steps xs)) old new) same
+
+-- ---- a status that tells nothing
+
+pub tells_nothing : (Are : WalkEnd → List Property → List ReportedOrder → Type 0) (status : ℕ) (old new : Option (List ℕ)) → status ≢ 0 → status ≢ 5 → TellsProperties Are status old new
+tells_nothing Are status old new zero five = record { held = λ e. absurd (zero e); failed = λ e. absurd (five e) }
+
+pub not_zero : (status : ℕ) → (status ≡ 2) ⊎ (status ≡ 4) → status ≢ 0
+not_zero status (inl e) = λ z. absurd (omega (arith, e, z))
+not_zero status (inr e) = λ z. absurd (omega (arith, e, z))
+
+pub not_five : (status : ℕ) → (status ≡ 2) ⊎ (status ≡ 4) → status ≢ 5
+not_five status (inl e) = λ z. absurd (omega (arith, e, z))
+not_five status (inr e) = λ z. absurd (omega (arith, e, z))
+
+pub not_one : (status : ℕ) → (status ≡ 2) ⊎ (status ≡ 4) → status ≢ 1
+not_one status (inl e) = λ z. absurd (omega (arith, e, z))
+not_one status (inr e) = λ z. absurd (omega (arith, e, z))
+
+pub refused_tells : (Are : WalkEnd → List Property → List ReportedOrder → Type 0) (status : ℕ) (old new : Option (List ℕ)) → (status ≡ 2) ⊎ (status ≡ 4) → TellsProperties Are status old new
+refused_tells Are status old new is = tells_nothing Are status old new (not_zero status is) (not_five status is)
+
+pub unread_tells : (known : Option (List ℕ)) (questions : Questions) (status : ℕ) (old new : Option (List ℕ)) → (status ≡ 2) ⊎ (status ≡ 4) → IfSome known (λ bytes. AnswersQuestions questions bytes status old new)
+unread_tells None questions status old new is = tt
+unread_tells (Some bytes) questions status old new is = refused_tells (AreFoundOfText questions bytes) status old new is
+
+-- what is said of the bytes of a file that was opened
+pub answers_opened : (known file : Option (List ℕ)) (questions : Questions) (status : ℕ) (old new : Option (List ℕ)) → known ≡ file → IfSome known (λ bytes. AnswersQuestions questions bytes status old new) → IfSome file (λ bytes. AnswersQuestions questions bytes status old new)
+answers_opened known file questions status old new same answers = subst (λ k. IfSome k (λ bytes. AnswersQuestions questions bytes status old new)) same answers
+
+pub writes_opened : (known file : Option (List ℕ)) (questions : Questions) (old new : Option (List ℕ)) → known ≡ file → IfSome known (λ bytes. WritesPart (IsToldOf questions bytes) old new) → IfSome file (λ bytes. WritesPart (IsToldOf questions bytes) old new)
+writes_opened known file questions old new same writes = subst (λ k. IfSome k (λ bytes. WritesPart (IsToldOf questions bytes) old new)) same writes
+
+pub unread_text : {IsOne : Type 0} (known : Option (List ℕ)) (questions : Questions) (status : ℕ) (old new : Option (List ℕ)) → (status ≡ 1) × IsOne ⊎ (status ≡ 2) ⊎ (status ≡ 4) → IfSome known (λ bytes. AnswersQuestions questions bytes status old new)
+unread_text None questions status old new is = tt
+unread_text (Some bytes) questions status old new (inl one) = tells_nothing (AreFoundOfText questions bytes) status old new (λ z. absurd (omega (arith, one.0, z))) (λ z. absurd (omega (arith, one.0, z)))
+unread_text (Some bytes) questions status old new (inr is) = refused_tells (AreFoundOfText questions bytes) status old new is
+
+pub nothing_known : (known : Option (List ℕ)) (questions : Questions) (old new : Option (List ℕ)) → new ≡ old → IfSome known (λ bytes. WritesPart (IsToldOf questions bytes) old new)
+nothing_known None questions old new same = tt
+nothing_known (Some bytes) questions old new same = inl same
+
+pub unread_no_code : (known : Option (List ℕ)) (status : ℕ) → (status ≡ 1) × IfSome known (λ bytes. IsRefused bytes) ⊎ (status ≡ 2) ⊎ (status ≡ 4) → status ≡ 1 → IfSome known (λ bytes. HasNoCode bytes)
+unread_no_code None status is e = tt
+unread_no_code (Some bytes) status is e = refused_text bytes (unread_refused status is e)
+
+-- ---- what was printed
+
+module _ (end : WalkEnd) (properties : List Property) (stuck : List ReportedOrder) where
+  pub tells_these : (status : ℕ) (old new : Option (List ℕ)) (text : List ℕ) → text ≡ properties_text properties stuck end → Appends old new text → (status ≡ 0 → end ≡ Whole) → (status ≡ 0 → has_unheld properties ≡ false) → (status ≡ 0 → stuck ≡ []) → (status ≡ 5 → has_failed properties ≡ true) → TellsProperties (AreThese end properties stuck) status old new
+  tells_these status old new text is writes whole held none failed = record {
+    held = λ e. (
+      properties,
+      (sym (whole e), refl, sym (none e)),
+      held e,
+      subst (λ ss. Appends old new (properties_text properties ss Whole)) (none e) (subst (λ w. Appends old new (properties_text properties stuck w)) (whole e) (subst (Appends old new) is writes)),
+    );
+    failed = λ e. (properties, stuck, end, (refl, refl, refl), failed e, subst (Appends old new) is writes);
+  }
+
+  pub text_of_these : (text : List ℕ) → text ≡ properties_text properties stuck end → IsTextOfProperties (AreThese end properties stuck) text
+  text_of_these text is = (properties, stuck, end, (refl, refl, refl), is)
+
+  -- what is so of these is so of what is told
+  pub these_so : (Are : WalkEnd → List Property → List ReportedOrder → Type 0) → Are end properties stuck → (e : WalkEnd) (ps : List Property) (ss : List ReportedOrder) → AreThese end properties stuck e ps ss → Are e ps ss
+  these_so Are are e ps ss same = subst (λ z. Are z ps ss) (sym same.0) (subst (λ x. Are end x ss) (sym same.1) (subst (Are end properties) (sym same.2) are))
+
+-- ---- names that can be asked, and others
+
+module _ (p : Program) where
+  each_askable : (last : Bool) (names : List (List ℕ)) → All (IsAskable p) names → AreAskable p (asked_each last names)
+  each_askable last names all = All-map (λ (a : IsAsked). IsAskable p a.0) (λ x. (x, last)) names all
+
+  asked_there : (last : Bool) (names : List (List ℕ)) (k : ℕ) (d : List ℕ) → k < length names → Contains (asked_each last names) (get_or names k d, last)
+  asked_there last names k d below =
+      let make : List ℕ → IsAsked = λ x. (x, last) in
+      let long = length-map names make in
+      (k, omega (arith, below, long), get_or-map make names k d (get_or names k d, last) below)
+
+  pub both_askable : (always last : List (List ℕ)) → All (IsAskable p) always → All (IsAskable p) last → AreAskable p (asked_each false always ++ asked_each true last)
+  both_askable always last all these =
+      All-append (λ (a : IsAsked). IsAskable p a.0) (asked_each false always) (asked_each true last) (each_askable false always all) (each_askable true last these)
+
+  module _ (always last : List (List ℕ)) where
+    abbrev asked : List IsAsked
+    asked = asked_each false always ++ asked_each true last
+
+    there_askable : (a : IsAsked) → AreAskable p asked → Contains asked a → IsAskable p a.0
+    there_askable a all there = All-contains (λ (x : IsAsked). IsAskable p x.0) asked a all there
+
+    pub always_unaskable : (All (IsAskable p) always → ⊥) → HasUnaskable p asked
+    always_unaskable not all = not (λ k d below.
+        there_askable (get_or always k d, false) all (Contains-append_left (asked_each false always) (asked_each true last) (get_or always k d, false) (asked_there false always k d below)))
+
+    pub last_unaskable : (All (IsAskable p) last → ⊥) → HasUnaskable p asked
+    last_unaskable not all = not (λ k d below.
+        there_askable (get_or last k d, true) all (Contains-append_right (asked_each false always) (asked_each true last) (get_or last k d, true) (asked_there true last k d below)))
+
+pub unaskable_text : (questions : Questions) (text : List ℕ) (source : ParsedSource) → IsSourceOf text source → ∥ IsAccepted source.program ∥₁ → HasUnaskable source.program (asked_by questions) → IsUnaskable questions text
+unaskable_text questions text source spelled accepted has = record {
+  source = source;
+  spelled = spelled;
+  accepted = accepted;
+  has = has;
+}
+
+-- a fault of the number of threads, or of memory, is told by the status 4
+pub not_unusable : (threads : ℕ) (f : MeaningFault) (status : ℕ) → IsFaultOfOrder threads [] f → (f ≡ fault.OutOfMemory → status ≡ 4) → (f ≡ fault.WrongThreads → status ≡ 4) → status ≢ 2
+not_unusable threads fault.OutOfMemory status is memory wrong = λ two. absurd (let e = memory refl in omega (arith, e, two))
+not_unusable threads fault.Stranger status is memory wrong = absurd (is.1 (λ k d below. absurd (omega (arith, below))))
+not_unusable threads fault.WrongThreads status is memory wrong = λ two. absurd (let e = wrong refl in omega (arith, e, two))
+
+-- ---- tests of properties
+
+pub any_property : {A : Type 0} (test : Finding → Bool) (rs : List (Own A)) → list_any (λ (r : Property). test r.finding) (map property_of rs) ≡ list_any (λ (r : Own A). test (property_of r).finding) rs
+any_property test [] = refl
+any_property test (r ∷ rs) = ap (λ b. test (property_of r).finding || b) (any_property test rs)

@@ -1,0 +1,8 @@
+use Rattle.syntax.specs.Views.{program_of}
+use Rattle.serving.specs.Askable.{IsAskable}
+use Rattle.serving.proofs.Asking.{AllIfRest}
+use Rattle.serving.proofs.askable.first_unaskable.Given as goal
+
+-- if those that are left can be asked, all can be
+abbrev pub invariant-names : goal.invariant-names
+invariant-names g l = AllIfRest (IsAskable (program_of l.unit)) (λ n. n.now) l.names l.name-index

@@ -1,0 +1,52 @@
+-- Comparing outcomes: with those of another program, or with a list.
+use Rattle.std.specs.Prelude.{◌≡◌, ◌⊎◌, ℕ, List, Option, IfSome, string_bytes}
+use Rattle.std.specs.Io.KnownBytes.{Appends}
+use Rattle.command.specs.declared.request.Against.{Against}
+use Rattle.command.specs.declared.request.Against.TheVariants.{Refined, Expected}
+use Rattle.command.specs.declared.request.Comparison.{Comparison}
+use Rattle.serving.specs.Expected.{SaysExpected, ShowsUnexpected}
+use Rattle.serving.specs.Limits.{HasNoCode}
+use Rattle.serving.specs.Outcomes.{IsListOfOutcomes}
+use Rattle.serving.specs.Refines.{SaysRefined, ShowsOther}
+use Rattle.serving.specs.Written.{WritesPart}
+
+-- the name of the file that outcomes are compared with
+abbrev pub name_of : Against → List ℕ
+name_of (Refined file) = string_bytes file
+name_of (Expected file) = string_bytes file
+
+-- it is said that it is so, of a text and of what is in that file
+abbrev pub Confirms : Against → (count : ℕ) → (text other written : List ℕ) → Type 0
+Confirms (Refined file) count text other written = SaysRefined (string_bytes file) count text other written
+Confirms (Expected file) count text other written = SaysExpected (IsListOfOutcomes count text) other written
+
+-- it is shown where it is not
+abbrev pub Denies : Against → (count : ℕ) → (text other written : List ℕ) → Type 0
+Denies (Refined file) count text other written = ShowsOther (string_bytes file) count text other written
+Denies (Expected file) count text other written = ShowsUnexpected (IsListOfOutcomes count text) other written
+
+-- the status 0 tells that it is so, and 5 that it is not
+pub record Tells (IsSo IsNot : List ℕ → Type 0) (status : ℕ) (old new : Option (List ℕ)) : Type 0 where
+  pub so : status ≡ 0 → (written : List ℕ) × IsSo written × Appends old new written
+  pub not_so : status ≡ 5 → (written : List ℕ) × IsNot written × Appends old new written
+
+abbrev pub IsEither : (IsSo IsNot : List ℕ → Type 0) → List ℕ → Type 0
+IsEither IsSo IsNot written = IsSo written ⊎ IsNot written
+
+-- a comparison, where these bytes are those of the source and of the other file
+abbrev pub ComparesOutcomes : Comparison → (other : Option (List ℕ)) → (text : List ℕ) → (status : ℕ) →
+    (old new : Option (List ℕ)) → Type 0
+ComparesOutcomes c other text status old new = IfSome other
+    (λ bytes. Tells (Confirms c.against c.threads text bytes) (Denies c.against c.threads text bytes) status old new)
+
+-- what is written for it, whatever the status
+abbrev pub WritesComparison : Comparison → (other : Option (List ℕ)) → (text : List ℕ) →
+    (old new : Option (List ℕ)) → Type 0
+WritesComparison c other text old new = IfSome other
+    (λ bytes. WritesPart (IsEither (Confirms c.against c.threads text bytes) (Denies c.against c.threads text bytes))
+    old new)
+
+-- why it is refused: the source has no code, or the other one
+abbrev pub HaveNoCode : Against → (other : Option (List ℕ)) → (text : List ℕ) → Type 0
+HaveNoCode (Refined file) other text = HasNoCode text ⊎ IfSome other (λ bytes. HasNoCode bytes)
+HaveNoCode (Expected file) other text = HasNoCode text

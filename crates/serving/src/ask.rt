@@ -1,0 +1,351 @@
+//! `txc outcomes` with `--always` or `--final`: whether functions of a source hold in every state that its threads come
+//! to, in whatever order, or in every outcome.
+
+ghost use Rattle.std.specs.Prelude.{◌≡◌, ◌≢◌, ◌≤◌, ◌⊎◌, ◌++◌, ◌==◌, [], All, IfNone, IfOk, IfSome, map, not, true, false};
+ghost use Rattle.std.specs.List.{list_any, slice_split};
+ghost use Rattle.syntax.specs.Views.{program_of};
+ghost use Rattle.report.specs.PropertyViews.{property_of};
+ghost use Rattle.report.specs.Views.{reported_of};
+ghost use Rattle.report.specs.declared.outcome_list.WalkEnd.TheVariants.{Whole};
+ghost use Rattle.serving.specs.Codes.{IsCodeOf};
+ghost use Rattle.serving.specs.Limits.{HasNoCode};
+ghost use Rattle.serving.specs.Askable.{IsAskable};
+ghost use Rattle.serving.specs.Properties.{AnswersQuestions, AreAnswered, HasUnaskable, IsTextOfProperties, IsToldOf};
+ghost use Rattle.serving.specs.Properties.{IsUnaskable, TellsProperties, asked_by, asked_each, has_failed, has_unheld};
+ghost use Rattle.serving.specs.Properties.{is_failed, is_held, names_listed};
+ghost use Rattle.serving.specs.Written.{WritesPart};
+ghost use Rattle.serving.specs.inner.Properties.{AreThese};
+
+use crate::askable::{Unaskable, first_unaskable};
+use crate::files::{Files, text_of};
+use crate::print::{ENDED, STOPPED, UNUSABLE, print};
+use crate::program::{Compiled, compile, unit_of};
+use crate::properties::{PropertiesFound, properties_in};
+use crate::request::bytes_of_memory;
+use crate::tell::{Detail, cannot_write, not_read, out_of_memory, refuse, refuse_order};
+use command::Questions;
+use messages::write_shown;
+use report::{Finding, Property, WalkEnd, properties_text};
+use std::alloc::{AllocError, Allocator};
+use std::io::{Read, Write};
+
+/// The exit status where some property fails.
+const FAILED: u8 = 5;
+
+/// Opens the source, and says whether functions of it hold.
+pub(crate) fn open_asked<A: Allocator + Copy, F: Files, W: Write, E: Write>(
+    alloc: A,
+    file: &str,
+    questions: &Questions,
+    files: &F,
+    detail: Detail<'_>,
+    out: &mut W,
+    err: &mut E,
+) -> u8
+    ensures status { result ≤ 5 }
+    ensures answer { IfSome (F.contents files.now file.now)
+        (λ bytes. AnswersQuestions questions.now bytes result (W.contents out.old) (W.contents out.new)) }
+    ensures written { IfSome (F.contents files.now file.now)
+        (λ bytes. WritesPart (IsToldOf questions.now bytes) (W.contents out.old) (W.contents out.new)) }
+    ensures refused { result ≡ 1 → IfSome (F.contents files.now file.now) (λ bytes. HasNoCode bytes) }
+    ensures untouched { result ≡ 1 → W.contents out.new ≡ W.contents out.old }
+{
+    match files.open(file) {
+        Ok(source) => ask(alloc, file, questions, source, detail, out, err),
+        Err(error) => not_read(file, &error, detail, err),
+    }
+}
+
+/// Says whether functions of a source hold. The status is 0 where all do and no order is stuck, 5 where some function
+/// fails, and else as `serve` says.
+pub(crate) fn ask<A: Allocator + Copy, R: Read + Drop, W: Write, E: Write>(
+    alloc: A,
+    file: &str,
+    questions: &Questions,
+    source: R,
+    detail: Detail<'_>,
+    out: &mut W,
+    err: &mut E,
+) -> u8
+    ensures status { result ≤ 5 }
+    ensures answer { IfSome (R.remaining source)
+        (λ bytes. AnswersQuestions questions.now bytes result (W.contents out.old) (W.contents out.new)) }
+    ensures written { IfSome (R.remaining source)
+        (λ bytes. WritesPart (IsToldOf questions.now bytes) (W.contents out.old) (W.contents out.new)) }
+    ensures refused { result ≡ 1 → IfSome (R.remaining source) (λ bytes. HasNoCode bytes) }
+    ensures untouched { result ≡ 1 → W.contents out.new ≡ W.contents out.old }
+{
+    match text_of(alloc, file, source, detail, err) {
+        Ok(text) => ask_text(alloc, questions, text.as_str(), detail, out, err),
+        Err(status) => status,
+    }
+}
+
+/// Says whether functions of a source's text hold.
+fn ask_text<A: Allocator + Copy, W: Write, E: Write>(
+    alloc: A,
+    questions: &Questions,
+    text: &str,
+    detail: Detail<'_>,
+    out: &mut W,
+    err: &mut E,
+) -> u8
+    ensures status { result ≤ 5 }
+    ensures answer { AnswersQuestions questions.now text.now result (W.contents out.old) (W.contents out.new) }
+    ensures written { WritesPart (IsToldOf questions.now text.now) (W.contents out.old) (W.contents out.new) }
+    ensures refused { result ≡ 1 → HasNoCode text.now }
+    ensures unaskable { result ≡ 2 → IsUnaskable questions.now text.now }
+    ensures untouched { result ≡ 1 → W.contents out.new ≡ W.contents out.old }
+{
+    match compile(alloc, text) {
+        Ok(compiled) => ask_program(alloc, questions, &compiled, detail, out, err),
+        Err(fault) => refuse(alloc, text, fault, detail, err),
+    }
+}
+
+/// The names that a text has, joined by commas.
+fn pieces<'a, A: Allocator>(alloc: A, text: &'a str) -> Result<Vec<&'a str, A>, AllocError>
+    ensures { IfOk result (λ v. map (λ p. p.now) v.items ≡ slice_split (λ b. b == 44) text.now) }
+{
+    text.split(',').collect(alloc)
+}
+
+/// The names that are given, if any are.
+fn names_of<'a, A: Allocator>(
+    alloc: A,
+    given: &'a Option<String>,
+) -> Result<Vec<&'a str, A>, AllocError>
+    ensures { IfOk result (λ v. map (λ p. p.now) v.items ≡ names_listed given.now) }
+{
+    match given {
+        Some(text) => pieces(alloc, text.as_str()),
+        None => Ok(Vec::new(alloc)),
+    }
+}
+
+/// Says whether functions of a program hold.
+fn ask_program<A: Allocator + Copy, W: Write, E: Write>(
+    alloc: A,
+    questions: &Questions,
+    compiled: &Compiled<A>,
+    detail: Detail<'_>,
+    out: &mut W,
+    err: &mut E,
+) -> u8
+    requires code { IsCodeOf (program_of compiled.now.accepted.safe.typed.unit) compiled.now.code }
+    ensures status { result ≤ 5 }
+    ensures not_refused { result ≢ 1 }
+    ensures answer { TellsProperties (AreAnswered (program_of compiled.now.accepted.safe.typed.unit)
+        questions.now.threads questions.now.steps (asked_by questions.now)) result (W.contents out.old)
+        (W.contents out.new) }
+    ensures written { WritesPart (IsTextOfProperties (AreAnswered (program_of compiled.now.accepted.safe.typed.unit)
+        questions.now.threads questions.now.steps (asked_by questions.now))) (W.contents out.old) (W.contents out.new) }
+    ensures unaskable { result ≡ 2 → HasUnaskable (program_of compiled.now.accepted.safe.typed.unit)
+        (asked_by questions.now) }
+{
+    match names_of(alloc, &questions.always) {
+        Ok(always) => match names_of(alloc, &questions.last) {
+            Ok(last) => ask_names(
+                alloc,
+                questions,
+                compiled,
+                always.as_slice(),
+                last.as_slice(),
+                detail,
+                out,
+                err,
+            ),
+            Err(_) => out_of_memory(err),
+        },
+        Err(_) => out_of_memory(err),
+    }
+}
+
+/// Says whether functions of these names hold in every state, and these in every outcome.
+fn ask_names<A: Allocator + Copy, W: Write, E: Write>(
+    alloc: A,
+    questions: &Questions,
+    compiled: &Compiled<A>,
+    always: &[&str],
+    last: &[&str],
+    detail: Detail<'_>,
+    out: &mut W,
+    err: &mut E,
+) -> u8
+    requires code { IsCodeOf (program_of compiled.now.accepted.safe.typed.unit) compiled.now.code }
+    ensures status { result ≤ 5 }
+    ensures not_refused { result ≢ 1 }
+    ensures answer { TellsProperties (AreAnswered (program_of compiled.now.accepted.safe.typed.unit)
+        questions.now.threads questions.now.steps
+        (asked_each false (map (λ n. n.now) always.now) ++ asked_each true (map (λ n. n.now) last.now))) result
+        (W.contents out.old) (W.contents out.new) }
+    ensures written { WritesPart (IsTextOfProperties (AreAnswered (program_of compiled.now.accepted.safe.typed.unit)
+        questions.now.threads questions.now.steps
+        (asked_each false (map (λ n. n.now) always.now) ++ asked_each true (map (λ n. n.now) last.now))))
+        (W.contents out.old) (W.contents out.new) }
+    ensures unaskable { result ≡ 2 → HasUnaskable (program_of compiled.now.accepted.safe.typed.unit)
+        (asked_each false (map (λ n. n.now) always.now) ++ asked_each true (map (λ n. n.now) last.now)) }
+{
+    if let Some(status) = refuse_names(alloc, compiled, "always", always, err) {
+        return status;
+    }
+    if let Some(status) = refuse_names(alloc, compiled, "final", last, err) {
+        return status;
+    }
+    match properties_in(
+        alloc,
+        compiled,
+        questions.threads,
+        u64::from(questions.steps),
+        questions.limit,
+        bytes_of_memory(questions.memory),
+        always,
+        last,
+        detail.progress,
+        err,
+    ) {
+        Ok(found) => print_found(alloc, &found, out, err),
+        Err(fault) => refuse_order(fault, detail, err),
+    }
+}
+
+/// The exit status with which it is told of the first of these names whose function may not be asked, if there is one.
+fn refuse_names<A: Allocator + Copy, E: Write>(
+    alloc: A,
+    compiled: &Compiled<A>,
+    option: &str,
+    names: &[&str],
+    err: &mut E,
+) -> Option<u8>
+    ensures status { IfSome result (λ s. (s ≡ 2) ⊎ (s ≡ 4)) }
+    ensures none { IfNone result
+        (All (IsAskable (program_of compiled.now.accepted.safe.typed.unit)) (map (λ n. n.now) names.now)) }
+    ensures unaskable { IfSome result (λ s. s ≡ 2 →
+        All (IsAskable (program_of compiled.now.accepted.safe.typed.unit)) (map (λ n. n.now) names.now) → ⊥) }
+{
+    match first_unaskable(alloc, unit_of(&compiled.accepted), names) {
+        Ok(found) => match found {
+            Some(unaskable) => Some(tell_unaskable(option, unaskable.0, unaskable.1, err)),
+            None => None,
+        },
+        Err(_) => Some(out_of_memory(err)),
+    }
+}
+
+/// Tells why a function may not be asked.
+fn tell_unaskable<E: Write>(option: &str, name: &str, why: Unaskable, err: &mut E) -> u8
+    ensures { result ≡ 2 }
+{
+    let _ = write!(err, "txc: usage: --{option} ");
+    let _ = write_shown(name, "", err);
+    let _ = writeln!(err, ": {}", why.words());
+    UNUSABLE
+}
+
+/// Prints what was found of properties, and gives the exit status.
+fn print_found<A: Allocator + Copy, W: Write, E: Write>(
+    alloc: A,
+    found: &PropertiesFound<A>,
+    out: &mut W,
+    err: &mut E,
+) -> u8
+    ensures status { result ≤ 5 }
+    ensures not_refused { result ≢ 1 }
+    ensures not_unusable { result ≢ 2 }
+    ensures answer { TellsProperties (AreThese found.now.end (map property_of found.now.properties.items)
+        (map reported_of found.now.stuck.items)) result (W.contents out.old) (W.contents out.new) }
+    ensures written { WritesPart (IsTextOfProperties (AreThese found.now.end
+        (map property_of found.now.properties.items) (map reported_of found.now.stuck.items))) (W.contents out.old)
+        (W.contents out.new) }
+{
+    match properties_text(
+        alloc,
+        found.properties.as_slice(),
+        found.stuck.as_slice(),
+        found.end,
+    ) {
+        Ok(text) => match print(text.as_slice(), out) {
+            Ok(()) => status_of_found(found),
+            Err(_) => cannot_write(err),
+        },
+        Err(_) => out_of_memory(err),
+    }
+}
+
+/// Whether it is not told of a property that it holds.
+fn is_unheld<A: Allocator>(one: &Property<A>) -> bool
+    ensures { result ≡ not (is_held (property_of one.now).finding) }
+{
+    match &one.finding {
+        Finding::Holds(_) => false,
+        Finding::Fails(_) => true,
+        Finding::Spent(_) => true,
+        Finding::Open(_) => true,
+    }
+}
+
+/// Whether it is told of a property that it fails.
+fn fails<A: Allocator>(one: &Property<A>) -> bool
+    ensures { result ≡ is_failed (property_of one.now).finding }
+{
+    match &one.finding {
+        Finding::Holds(_) => false,
+        Finding::Fails(_) => true,
+        Finding::Spent(_) => false,
+        Finding::Open(_) => false,
+    }
+}
+
+/// Whether it is not told of one of these that it holds: a call of its own, since the prover sees `any` by the elements as
+/// they are.
+fn one_is_unheld<A: Allocator>(properties: &[Property<A>]) -> bool
+    ensures { result ≡ list_any (λ r. not (is_held (property_of r).finding)) properties.now }
+{
+    properties.iter().any(|one| is_unheld(one))
+}
+
+/// Whether it is told of one of these that it fails, likewise.
+fn one_fails<A: Allocator>(properties: &[Property<A>]) -> bool
+    ensures { result ≡ list_any (λ r. is_failed (property_of r).finding) properties.now }
+{
+    properties.iter().any(|one| fails(one))
+}
+
+/// Whether it is not told of some property that it holds.
+fn some_unheld<A: Allocator>(properties: &[Property<A>]) -> bool
+    ensures { result ≡ has_unheld (map property_of properties.now) }
+{
+    one_is_unheld(properties)
+}
+
+/// Whether it is told of some property that it fails.
+fn some_fails<A: Allocator>(properties: &[Property<A>]) -> bool
+    ensures { result ≡ has_failed (map property_of properties.now) }
+{
+    one_fails(properties)
+}
+
+/// The exit status where it was told of properties.
+fn status_of_found<A: Allocator>(found: &PropertiesFound<A>) -> u8
+    ensures within { result ≤ 5 }
+    ensures not_refused { result ≢ 1 }
+    ensures not_unusable { result ≢ 2 }
+    ensures whole { result ≡ 0 → found.now.end ≡ Whole }
+    ensures held { result ≡ 0 → has_unheld (map property_of found.now.properties.items) ≡ false }
+    ensures none_stuck { result ≡ 0 → map reported_of found.now.stuck.items ≡ [] }
+    ensures failed { result ≡ 5 → has_failed (map property_of found.now.properties.items) ≡ true }
+{
+    if some_fails(found.properties.as_slice()) {
+        return FAILED;
+    }
+    if found.end != WalkEnd::Whole {
+        return STOPPED;
+    }
+    if !found.stuck.is_empty() {
+        return STOPPED;
+    }
+    if some_unheld(found.properties.as_slice()) {
+        return STOPPED;
+    }
+    ENDED
+}

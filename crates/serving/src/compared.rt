@@ -1,0 +1,165 @@
+//! `txc outcomes` with `--refines` or `--expect`: outcomes that are compared with those of another program, or with a
+//! list.
+
+ghost use Rattle.std.specs.Prelude.{◌≡◌, ◌≤◌, IfSome};
+ghost use Rattle.serving.specs.Compared.{ComparesOutcomes, HaveNoCode, WritesComparison, name_of};
+
+use crate::expected::expect;
+use crate::files::{Files, text_of};
+use crate::refined::refine;
+use crate::tell::{Detail, not_read};
+use command::{Against, Comparison};
+use std::alloc::Allocator;
+use std::io::{Read, Write};
+
+/// The name of the file that outcomes are compared with.
+fn name_of(against: &Against) -> &str
+    ensures { result.now ≡ name_of against.now }
+{
+    match against {
+        Against::Refined { file } | Against::Expected { file } => file.as_str(),
+    }
+}
+
+/// Opens the source, and then what its outcomes are compared with, and compares them.
+pub(crate) fn open_comparison<A: Allocator + Copy, F: Files, W: Write, E: Write>(
+    alloc: A,
+    file: &str,
+    comparison: &Comparison,
+    files: &F,
+    detail: Detail<'_>,
+    out: &mut W,
+    err: &mut E,
+) -> u8
+    ensures status { result ≤ 5 }
+    ensures answer { IfSome (F.contents files.now file.now)
+        (λ bytes. ComparesOutcomes comparison.now (F.contents files.now (name_of comparison.now.against)) bytes result
+        (W.contents out.old) (W.contents out.new)) }
+    ensures written { IfSome (F.contents files.now file.now)
+        (λ bytes. WritesComparison comparison.now (F.contents files.now (name_of comparison.now.against)) bytes
+        (W.contents out.old) (W.contents out.new)) }
+    ensures refused { result ≡ 1 → IfSome (F.contents files.now file.now)
+        (λ bytes. HaveNoCode comparison.now.against (F.contents files.now (name_of comparison.now.against)) bytes) }
+    ensures untouched { result ≡ 1 → W.contents out.new ≡ W.contents out.old }
+{
+    match files.open(file) {
+        Ok(source) => open_other(alloc, file, comparison, source, files, detail, out, err),
+        Err(error) => not_read(file, &error, detail, err),
+    }
+}
+
+/// Opens what a source's outcomes are compared with, and compares them.
+fn open_other<A: Allocator + Copy, F: Files, R: Read + Drop, W: Write, E: Write>(
+    alloc: A,
+    file: &str,
+    comparison: &Comparison,
+    source: R,
+    files: &F,
+    detail: Detail<'_>,
+    out: &mut W,
+    err: &mut E,
+) -> u8
+    ensures status { result ≤ 5 }
+    ensures answer { IfSome (R.remaining source)
+        (λ bytes. ComparesOutcomes comparison.now (F.contents files.now (name_of comparison.now.against)) bytes result
+        (W.contents out.old) (W.contents out.new)) }
+    ensures written { IfSome (R.remaining source)
+        (λ bytes. WritesComparison comparison.now (F.contents files.now (name_of comparison.now.against)) bytes
+        (W.contents out.old) (W.contents out.new)) }
+    ensures refused { result ≡ 1 → IfSome (R.remaining source)
+        (λ bytes. HaveNoCode comparison.now.against (F.contents files.now (name_of comparison.now.against)) bytes) }
+    ensures untouched { result ≡ 1 → W.contents out.new ≡ W.contents out.old }
+{
+    let name = name_of(&comparison.against);
+    match files.open(name) {
+        Ok(other) => compare(alloc, file, comparison, source, other, detail, out, err),
+        Err(error) => not_read(name, &error, detail, err),
+    }
+}
+
+/// Compares the outcomes of a source with those of another program, or with a list: says that it is so, or shows where it
+/// is not. The source is read first. The status is 0 where it is so, 5 where it is not, and else as `serve` says.
+pub(crate) fn compare<A: Allocator + Copy, R: Read + Drop, Q: Read + Drop, W: Write, E: Write>(
+    alloc: A,
+    file: &str,
+    comparison: &Comparison,
+    source: R,
+    other: Q,
+    detail: Detail<'_>,
+    out: &mut W,
+    err: &mut E,
+) -> u8
+    ensures status { result ≤ 5 }
+    ensures answer { IfSome (R.remaining source)
+        (λ bytes. ComparesOutcomes comparison.now (Q.remaining other) bytes result (W.contents out.old)
+        (W.contents out.new)) }
+    ensures written { IfSome (R.remaining source)
+        (λ bytes. WritesComparison comparison.now (Q.remaining other) bytes (W.contents out.old)
+        (W.contents out.new)) }
+    ensures refused { result ≡ 1 → IfSome (R.remaining source)
+        (λ bytes. HaveNoCode comparison.now.against (Q.remaining other) bytes) }
+    ensures untouched { result ≡ 1 → W.contents out.new ≡ W.contents out.old }
+{
+    match text_of(alloc, file, source, detail, err) {
+        Ok(text) => compare_text(alloc, comparison, text.as_str(), other, detail, out, err),
+        Err(status) => status,
+    }
+}
+
+/// Compares the outcomes of a source's text.
+fn compare_text<A: Allocator + Copy, Q: Read + Drop, W: Write, E: Write>(
+    alloc: A,
+    comparison: &Comparison,
+    text: &str,
+    other: Q,
+    detail: Detail<'_>,
+    out: &mut W,
+    err: &mut E,
+) -> u8
+    ensures status { result ≤ 5 }
+    ensures answer { ComparesOutcomes comparison.now (Q.remaining other) text.now result (W.contents out.old)
+        (W.contents out.new) }
+    ensures written { WritesComparison comparison.now (Q.remaining other) text.now (W.contents out.old)
+        (W.contents out.new) }
+    ensures refused { result ≡ 1 → HaveNoCode comparison.now.against (Q.remaining other) text.now }
+    ensures untouched { result ≡ 1 → W.contents out.new ≡ W.contents out.old }
+{
+    let limits = Limits {
+        threads: comparison.threads,
+        steps: comparison.steps,
+        limit: comparison.limit,
+        memory: comparison.memory,
+    };
+    match &comparison.against {
+        Against::Refined { file } => refine(
+            alloc,
+            limits,
+            text,
+            file.as_str(),
+            other,
+            detail,
+            out,
+            err,
+        ),
+        Against::Expected { file } => expect(
+            alloc,
+            limits,
+            text,
+            file.as_str(),
+            other,
+            detail,
+            out,
+            err,
+        ),
+    }
+}
+
+/// How many threads there are, how many steps of its code one makes in a turn at most, over how many states outcomes are
+/// found, and how many MB states and list take.
+#[derive(Clone, Copy)]
+pub(crate) struct Limits {
+    pub(crate) threads: u32,
+    pub(crate) steps: u32,
+    pub(crate) limit: u32,
+    pub(crate) memory: u32,
+}

@@ -1,0 +1,142 @@
+//! Whether a list of outcomes is the one that is expected.
+
+ghost use Rattle.std.specs.Prelude.{◌≡◌, ◌≢◌, ◌≤◌, IfSome};
+ghost use Rattle.serving.specs.Compared.{IsEither, Tells};
+ghost use Rattle.serving.specs.Expected.{SaysExpected, ShowsUnexpected};
+ghost use Rattle.serving.specs.Limits.{HasNoCode};
+ghost use Rattle.serving.specs.Outcomes.{IsListOfOutcomes};
+ghost use Rattle.serving.specs.Written.{WritesPart};
+ghost use Rattle.serving.specs.inner.Compared.{list_of};
+
+use crate::all_outcomes::list_outcomes;
+use crate::certify::read_all;
+use crate::compared::Limits;
+use crate::print::{REFUTED, print, print_text};
+use crate::request::bytes_of_memory;
+use crate::source::OrderFault;
+use crate::tell::{Detail, cannot_write, not_read, out_of_memory, refuse, refuse_order};
+use crate::walked::OutcomesFound;
+use differences::difference;
+use report::list_text;
+use std::alloc::Allocator;
+use std::io::{Read, Write};
+
+/// Says whether the list of a source's outcomes is the one in a file, which is read once they are found.
+pub(crate) fn expect<A: Allocator + Copy, Q: Read + Drop, W: Write, E: Write>(
+    alloc: A,
+    limits: Limits,
+    text: &str,
+    file: &str,
+    expected: Q,
+    detail: Detail<'_>,
+    out: &mut W,
+    err: &mut E,
+) -> u8
+    ensures status { result ≤ 5 }
+    ensures answer { IfSome (Q.remaining expected)
+        (λ bytes. Tells (SaysExpected (IsListOfOutcomes limits.threads text.now) bytes)
+        (ShowsUnexpected (IsListOfOutcomes limits.threads text.now) bytes) result (W.contents out.old)
+        (W.contents out.new)) }
+    ensures written { IfSome (Q.remaining expected)
+        (λ bytes. WritesPart (IsEither (SaysExpected (IsListOfOutcomes limits.threads text.now) bytes)
+        (ShowsUnexpected (IsListOfOutcomes limits.threads text.now) bytes)) (W.contents out.old)
+        (W.contents out.new)) }
+    ensures refused { result ≡ 1 → HasNoCode text.now }
+    ensures untouched { result ≡ 1 → W.contents out.new ≡ W.contents out.old }
+{
+    match list_outcomes(
+        alloc,
+        text,
+        limits.threads,
+        u64::from(limits.steps),
+        limits.limit,
+        bytes_of_memory(limits.memory),
+        detail.progress,
+        err,
+    ) {
+        Ok(found) => expect_outcomes(alloc, &found, file, expected, detail, out, err),
+        Err(OrderFault::Source(fault)) => refuse(alloc, text, fault, detail, err),
+        Err(OrderFault::Order(fault)) => refuse_order(fault, detail, err),
+    }
+}
+
+/// Says whether the list of these outcomes is the one in a file.
+fn expect_outcomes<A: Allocator + Copy, Q: Read + Drop, W: Write, E: Write>(
+    alloc: A,
+    found: &OutcomesFound<A>,
+    file: &str,
+    expected: Q,
+    detail: Detail<'_>,
+    out: &mut W,
+    err: &mut E,
+) -> u8
+    ensures status { result ≤ 5 }
+    ensures not_refused { result ≢ 1 }
+    ensures answer { IfSome (Q.remaining expected)
+        (λ bytes. Tells (SaysExpected (λ t. t ≡ list_of found.now) bytes) (ShowsUnexpected (λ t. t ≡ list_of found.now) bytes)
+        result (W.contents out.old) (W.contents out.new)) }
+    ensures written { IfSome (Q.remaining expected)
+        (λ bytes. WritesPart (IsEither (SaysExpected (λ t. t ≡ list_of found.now) bytes)
+        (ShowsUnexpected (λ t. t ≡ list_of found.now) bytes)) (W.contents out.old) (W.contents out.new)) }
+{
+    match list_text(
+        alloc,
+        found.outcomes.as_slice(),
+        found.stuck.as_slice(),
+        found.states,
+        found.end,
+    ) {
+        Ok(list) => expect_list(alloc, list.as_slice(), file, expected, detail, out, err),
+        Err(_) => out_of_memory(err),
+    }
+}
+
+/// Says whether a list is the one in a file.
+fn expect_list<A: Allocator + Copy, Q: Read + Drop, W: Write, E: Write>(
+    alloc: A,
+    list: &[u8],
+    file: &str,
+    expected: Q,
+    detail: Detail<'_>,
+    out: &mut W,
+    err: &mut E,
+) -> u8
+    ensures status { result ≤ 5 }
+    ensures not_refused { result ≢ 1 }
+    ensures answer { IfSome (Q.remaining expected)
+        (λ bytes. Tells (SaysExpected (λ t. t ≡ list.now) bytes) (ShowsUnexpected (λ t. t ≡ list.now) bytes)
+        result (W.contents out.old) (W.contents out.new)) }
+    ensures written { IfSome (Q.remaining expected)
+        (λ bytes. WritesPart (IsEither (SaysExpected (λ t. t ≡ list.now) bytes)
+        (ShowsUnexpected (λ t. t ≡ list.now) bytes)) (W.contents out.old) (W.contents out.new)) }
+{
+    match read_all(alloc, expected) {
+        Ok(expected) => tell_expected(alloc, list, expected.as_slice(), out, err),
+        Err(error) => not_read(file, &error, detail, err),
+    }
+}
+
+/// Says whether a list is the one that is expected, or shows the first line in which it differs.
+fn tell_expected<A: Allocator + Copy, W: Write, E: Write>(
+    alloc: A,
+    list: &[u8],
+    expected: &[u8],
+    out: &mut W,
+    err: &mut E,
+) -> u8
+    ensures status { result ≤ 5 }
+    ensures not_refused { result ≢ 1 }
+    ensures answer { Tells (SaysExpected (λ t. t ≡ list.now) expected.now)
+        (ShowsUnexpected (λ t. t ≡ list.now) expected.now) result (W.contents out.old) (W.contents out.new) }
+    ensures written { WritesPart (IsEither (SaysExpected (λ t. t ≡ list.now) expected.now)
+        (ShowsUnexpected (λ t. t ≡ list.now) expected.now)) (W.contents out.old) (W.contents out.new) }
+{
+    match difference(alloc, b"expected", expected, b"found", list) {
+        Ok(None) => print_text(b"as expected\n", out, err),
+        Ok(Some(difference)) => match print(difference.as_slice(), out) {
+            Ok(()) => REFUTED,
+            Err(_) => cannot_write(err),
+        },
+        Err(_) => out_of_memory(err),
+    }
+}

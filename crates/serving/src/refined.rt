@@ -1,0 +1,300 @@
+//! Whether each outcome of one program is one of another's.
+
+ghost use Rattle.std.specs.Prelude.{◌≡◌, ◌≢◌, ◌≤◌, ◌⊎◌, [], IfErr, IfOk, IfSome, is_some, length, map, true};
+ghost use Rattle.std.specs.Io.KnownBytes.{Appends};
+ghost use Rattle.syntax.specs.Views.{program_of};
+ghost use Rattle.refinements.specs.Told as spec;
+ghost use Rattle.report.specs.Views.{reported_of};
+ghost use Rattle.report.specs.declared.outcome_list.WalkEnd.TheVariants.{Whole};
+ghost use Rattle.serving.specs.Codes.{IsCodeOf};
+ghost use Rattle.serving.specs.Compared.{IsEither, Tells};
+ghost use Rattle.serving.specs.Limits.{HasNoCode};
+ghost use Rattle.serving.specs.Outcomes.{AreOutcomesOf};
+ghost use Rattle.serving.specs.Refusals.{span_of_source};
+ghost use Rattle.serving.specs.Refines.{SaysRefined, SaysRefines, ShowsBeyond, ShowsOther};
+ghost use Rattle.serving.specs.Written.{WritesPart};
+ghost use Rattle.serving.specs.inner.Compared.{SaysShown, ShowsUnshown};
+
+use crate::compared::Limits;
+use crate::files::text_of;
+use crate::print::{REFUSED, REFUTED, STOPPED, print, print_text};
+use crate::program::{Compiled, SourceFault, compile};
+use crate::request::bytes_of_memory;
+use crate::tell::{Detail, cannot_write, out_of_memory, refuse, refuse_order};
+use crate::walked::{OutcomesFound, outcomes_in};
+use command::Format;
+use messages::write_shown;
+use refinements::{beyond_text, first_beyond, refined_text};
+use report::{ReportedOrder, WalkEnd};
+use std::alloc::Allocator;
+use std::io::{Read, Write};
+
+/// Says whether each outcome of a source's text is one of the program's in a file, which is read next.
+pub(crate) fn refine<A: Allocator + Copy, Q: Read + Drop, W: Write, E: Write>(
+    alloc: A,
+    limits: Limits,
+    text: &str,
+    name: &str,
+    other: Q,
+    detail: Detail<'_>,
+    out: &mut W,
+    err: &mut E,
+) -> u8
+    ensures status { result ≤ 5 }
+    ensures answer { IfSome (Q.remaining other)
+        (λ bytes. Tells (SaysRefined name.now limits.threads text.now bytes)
+        (ShowsOther name.now limits.threads text.now bytes) result (W.contents out.old) (W.contents out.new)) }
+    ensures written { IfSome (Q.remaining other)
+        (λ bytes. WritesPart (IsEither (SaysRefined name.now limits.threads text.now bytes)
+        (ShowsOther name.now limits.threads text.now bytes)) (W.contents out.old) (W.contents out.new)) }
+    ensures refused { result ≡ 1 → HasNoCode text.now ⊎ IfSome (Q.remaining other) (λ bytes. HasNoCode bytes) }
+    ensures untouched { result ≡ 1 → W.contents out.new ≡ W.contents out.old }
+{
+    match text_of(alloc, name, other, detail.of_file(name), err) {
+        Ok(other) => refine_text(alloc, limits, text, name, other.as_str(), detail, out, err),
+        Err(status) => tell_whose(status, name, detail, err),
+    }
+}
+
+/// Says whether each outcome of a source's text is one of the other's.
+fn refine_text<A: Allocator + Copy, W: Write, E: Write>(
+    alloc: A,
+    limits: Limits,
+    text: &str,
+    name: &str,
+    other: &str,
+    detail: Detail<'_>,
+    out: &mut W,
+    err: &mut E,
+) -> u8
+    ensures status { result ≤ 5 }
+    ensures answer { Tells (SaysRefined name.now limits.threads text.now other.now)
+        (ShowsOther name.now limits.threads text.now other.now) result (W.contents out.old) (W.contents out.new) }
+    ensures written { WritesPart (IsEither (SaysRefined name.now limits.threads text.now other.now)
+        (ShowsOther name.now limits.threads text.now other.now)) (W.contents out.old) (W.contents out.new) }
+    ensures refused { result ≡ 1 → HasNoCode text.now ⊎ HasNoCode other.now }
+    ensures untouched { result ≡ 1 → W.contents out.new ≡ W.contents out.old }
+{
+    match compile(alloc, text) {
+        Ok(this) => match compile(alloc, other) {
+            Ok(that) => refine_programs(alloc, limits, &this, name, &that, detail, out, err),
+            Err(fault) => refuse_other(alloc, other, fault, name, detail, err),
+        },
+        Err(fault) => refuse(alloc, text, fault, detail, err),
+    }
+}
+
+/// Says why the source is refused whose outcomes are to be those of another, and which one it is.
+fn refuse_other<A: Allocator + Copy, E: Write>(
+    alloc: A,
+    text: &str,
+    fault: SourceFault,
+    name: &str,
+    detail: Detail<'_>,
+    err: &mut E,
+) -> u8
+    ensures within { result ≤ 4 }
+    ensures not_ended { result ≢ 0 }
+    ensures refused { result ≡ 1 → is_some (span_of_source fault) ≡ true }
+{
+    let status = refuse(alloc, text, fault, detail.of_file(name), err);
+    tell_whose(status, name, detail, err)
+}
+
+/// Says whether each outcome of a program is one of another's.
+fn refine_programs<A: Allocator + Copy, W: Write, E: Write>(
+    alloc: A,
+    limits: Limits,
+    this: &Compiled<A>,
+    name: &str,
+    that: &Compiled<A>,
+    detail: Detail<'_>,
+    out: &mut W,
+    err: &mut E,
+) -> u8
+    requires code { IsCodeOf (program_of this.now.accepted.safe.typed.unit) this.now.code }
+    requires other_code { IsCodeOf (program_of that.now.accepted.safe.typed.unit) that.now.code }
+    ensures status { result ≤ 5 }
+    ensures not_refused { result ≢ 1 }
+    ensures answer { Tells (SaysRefines name.now limits.threads (program_of this.now.accepted.safe.typed.unit)
+        (program_of that.now.accepted.safe.typed.unit)) (ShowsBeyond name.now limits.threads
+        (program_of this.now.accepted.safe.typed.unit) (program_of that.now.accepted.safe.typed.unit)) result
+        (W.contents out.old) (W.contents out.new) }
+    ensures written { WritesPart (IsEither (SaysRefines name.now limits.threads
+        (program_of this.now.accepted.safe.typed.unit) (program_of that.now.accepted.safe.typed.unit))
+        (ShowsBeyond name.now limits.threads (program_of this.now.accepted.safe.typed.unit)
+        (program_of that.now.accepted.safe.typed.unit))) (W.contents out.old) (W.contents out.new) }
+{
+    match outcomes_found(alloc, limits, this, detail, err) {
+        Ok(found) => match outcomes_found(alloc, limits, that, detail, err) {
+            Ok(others) => tell_found(alloc, &found, name, &others, detail, out, err),
+            Err(status) => status,
+        },
+        Err(status) => status,
+    }
+}
+
+/// The outcomes of a program. What hinders it is told, and the error is then the exit status.
+fn outcomes_found<A: Allocator + Copy, E: Write>(
+    alloc: A,
+    limits: Limits,
+    compiled: &Compiled<A>,
+    detail: Detail<'_>,
+    err: &mut E,
+) -> Result<OutcomesFound<A>, u8>
+    requires code { IsCodeOf (program_of compiled.now.accepted.safe.typed.unit) compiled.now.code }
+    ensures are { IfOk result
+        (λ o. AreOutcomesOf (program_of compiled.now.accepted.safe.typed.unit) limits.threads o.end
+        (map reported_of o.outcomes.items) (map reported_of o.stuck.items)) }
+    ensures status { IfErr result (λ s. (s ≡ 2) ⊎ (s ≡ 4)) }
+{
+    let steps = u64::from(limits.steps);
+    match outcomes_in(
+        alloc,
+        compiled,
+        limits.threads,
+        steps,
+        limits.limit,
+        bytes_of_memory(limits.memory),
+        detail.progress,
+        err,
+    ) {
+        Ok(found) => Ok(found),
+        Err(fault) => Err(refuse_order(fault, detail, err)),
+    }
+}
+
+/// Whether these are all outcomes.
+fn is_whole<A: Allocator>(found: &OutcomesFound<A>) -> bool
+    ensures { result ≡ true → found.now.end ≡ Whole }
+{
+    found.end == WalkEnd::Whole
+}
+
+/// Says whether each of these outcomes is one of the others, where both are all.
+fn tell_found<A: Allocator + Copy, W: Write, E: Write>(
+    alloc: A,
+    found: &OutcomesFound<A>,
+    name: &str,
+    others: &OutcomesFound<A>,
+    detail: Detail<'_>,
+    out: &mut W,
+    err: &mut E,
+) -> u8
+    ensures status { result ≤ 5 }
+    ensures not_refused { result ≢ 1 }
+    ensures answer { Tells (SaysShown name.now found.now.end (map reported_of found.now.outcomes.items)
+        (map reported_of found.now.stuck.items) others.now.end (map reported_of others.now.outcomes.items))
+        (ShowsUnshown name.now found.now.end (map reported_of found.now.outcomes.items)
+        (map reported_of found.now.stuck.items) others.now.end (map reported_of others.now.outcomes.items)) result
+        (W.contents out.old) (W.contents out.new) }
+    ensures written { WritesPart (IsEither (SaysShown name.now found.now.end (map reported_of found.now.outcomes.items)
+        (map reported_of found.now.stuck.items) others.now.end (map reported_of others.now.outcomes.items))
+        (ShowsUnshown name.now found.now.end (map reported_of found.now.outcomes.items)
+        (map reported_of found.now.stuck.items) others.now.end (map reported_of others.now.outcomes.items)))
+        (W.contents out.old) (W.contents out.new) }
+{
+    if !is_whole(found) {
+        return tell_stopped(detail.file, found.end, err);
+    }
+    if !is_whole(others) {
+        return tell_stopped(name, others.end, err);
+    }
+    match first_beyond(alloc, found.outcomes.as_slice(), others.outcomes.as_slice()) {
+        Ok(Some(one)) => tell_beyond(alloc, name, one, out, err),
+        Ok(None) => tell_refined(alloc, found, name, others, detail, out, err),
+        Err(_) => out_of_memory(err),
+    }
+}
+
+/// Shows an outcome that is none of the others.
+fn tell_beyond<A: Allocator + Copy, W: Write, E: Write>(
+    alloc: A,
+    name: &str,
+    one: &ReportedOrder<A>,
+    out: &mut W,
+    err: &mut E,
+) -> u8
+    ensures status { (result ≡ 5) ⊎ (result ≡ 4) }
+    ensures shown { result ≡ 5 → Appends (W.contents out.old) (W.contents out.new)
+        (spec.beyond_text name.now (reported_of one.now)) }
+    ensures written { WritesPart (λ written. written ≡ spec.beyond_text name.now (reported_of one.now))
+        (W.contents out.old) (W.contents out.new) }
+{
+    match beyond_text(alloc, name, one) {
+        Ok(text) => match print(text.as_slice(), out) {
+            Ok(()) => REFUTED,
+            Err(_) => cannot_write(err),
+        },
+        Err(_) => out_of_memory(err),
+    }
+}
+
+/// Says that each outcome is one of the others, unless an order is stuck.
+fn tell_refined<A: Allocator + Copy, W: Write, E: Write>(
+    alloc: A,
+    found: &OutcomesFound<A>,
+    name: &str,
+    others: &OutcomesFound<A>,
+    detail: Detail<'_>,
+    out: &mut W,
+    err: &mut E,
+) -> u8
+    ensures status { (result ≡ 0) ⊎ (result ≡ 4) }
+    ensures said { result ≡ 0 → Appends (W.contents out.old) (W.contents out.new)
+        (spec.refined_text name.now (length found.now.outcomes.items) (length others.now.outcomes.items)) }
+    ensures none_stuck { result ≡ 0 → map reported_of found.now.stuck.items ≡ [] }
+    ensures written { WritesPart
+        (λ written. (map reported_of found.now.stuck.items ≡ []) × (written ≡ spec.refined_text name.now
+        (length found.now.outcomes.items) (length others.now.outcomes.items)))
+        (W.contents out.old) (W.contents out.new) }
+{
+    if !found.stuck.is_empty() {
+        return tell_stuck(detail.file, err);
+    }
+    match refined_text(
+        alloc,
+        name,
+        found.outcomes.len() as u64,
+        others.outcomes.len() as u64,
+    ) {
+        Ok(text) => print_text(text.as_slice(), out, err),
+        Err(_) => out_of_memory(err),
+    }
+}
+
+/// Says of which file the fault is that was told, where it is not told by itself. Gives the exit status.
+fn tell_whose<E: Write>(status: u8, name: &str, detail: Detail<'_>, err: &mut E) -> u8
+    ensures { result ≡ status }
+{
+    if status == REFUSED && detail.format == Format::Plain {
+        let _ = err.write_all(b"txc: that is of ");
+        let _ = write_shown(name, "", err);
+        let _ = err.write_all(b"\n");
+    }
+    status
+}
+
+/// Says that some order of the program in a file is stuck.
+fn tell_stuck<E: Write>(name: &str, err: &mut E) -> u8
+    ensures { result ≡ 4 }
+{
+    let _ = err.write_all(b"txc: ");
+    let _ = write_shown(name, "", err);
+    let _ = err.write_all(b": an order is stuck\n");
+    STOPPED
+}
+
+/// Says at what the walk over the states of the program in a file was stopped.
+fn tell_stopped<E: Write>(name: &str, end: WalkEnd, err: &mut E) -> u8
+    ensures { result ≡ 4 }
+{
+    let _ = err.write_all(b"txc: ");
+    let _ = write_shown(name, "", err);
+    let _ = match end {
+        WalkEnd::AtSteps => err.write_all(b": stopped at the steps\n"),
+        WalkEnd::AtMemory => err.write_all(b": stopped at the memory\n"),
+        WalkEnd::Whole | WalkEnd::AtLimit => err.write_all(b": stopped at the limit\n"),
+    };
+    STOPPED
+}

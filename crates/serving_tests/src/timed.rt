@@ -1,0 +1,82 @@
+//! Tests of the seconds behind a line that tells how far a walk is.
+
+use crate::all_orders::MANY;
+use serving::{Timed, list_outcomes};
+use std::alloc::Global;
+use std::cell::Cell;
+use std::io;
+use std::io::ErrorKind;
+use std::time::{Clock, Duration};
+
+/// A clock that goes on by some seconds each time it is read.
+#[derive(Drop)]
+struct Ticking {
+    now: Cell<u64>,
+    step: u64,
+}
+
+impl Clock for Ticking {
+    fn monotonic(&self) -> io::Result<Duration> {
+        let now = self.now.get();
+        self.now.set(now.saturating_add(self.step));
+        Ok(Duration::from_secs(now))
+    }
+
+    fn since_1970(&self) -> io::Result<Duration> {
+        self.monotonic()
+    }
+}
+
+/// A clock that can't be read.
+#[derive(Drop)]
+struct Broken;
+
+impl Clock for Broken {
+    fn monotonic(&self) -> io::Result<Duration> {
+        Err(io::Error::from(ErrorKind::Unsupported))
+    }
+
+    fn since_1970(&self) -> io::Result<Duration> {
+        self.monotonic()
+    }
+}
+
+/// Whether this is told of a walk over more than 1,000 states and fewer than 2,000, before the line is taken away.
+fn is_told<C: Clock>(alloc: Global, clock: &C, line: &[u8]) -> bool {
+    let mut told = Vec::new(alloc);
+    let mut timed = Timed::new(&mut told, clock);
+    let found = list_outcomes(alloc, MANY, 2, 100000, 10000, u64::MAX, true, &mut timed);
+    found.is_ok()
+        && match told.as_slice().strip_prefix(line) {
+            Some(rest) => rest == line_cleared(),
+            None => false,
+        }
+}
+
+/// What takes a line away.
+fn line_cleared() -> &'static [u8] {
+    b"\r                                                            \r"
+}
+
+#[test]
+fn seconds_are_told(rt: HostRuntime) {
+    let ticking = Ticking {
+        now: Cell::new(70),
+        step: 12,
+    };
+    assert!(rt; is_told(rt.alloc(), &ticking, b"\rtxc: 1000 states, 12 s"));
+}
+
+#[test]
+fn no_second_is_told_before_one_has_passed(rt: HostRuntime) {
+    let stopped = Ticking {
+        now: Cell::new(70),
+        step: 0,
+    };
+    assert!(rt; is_told(rt.alloc(), &stopped, b"\rtxc: 1000 states"));
+}
+
+#[test]
+fn no_seconds_are_told_without_a_clock(rt: HostRuntime) {
+    assert!(rt; is_told(rt.alloc(), &Broken, b"\rtxc: 1000 states"));
+}

@@ -1,0 +1,16 @@
+// What is asked may trap, as where it divides by a number that is 0, or may never end.
+int sum, count, steps = 1;
+
+int average_is_small(void) { return sum / count < 10; }
+
+int comes_to_an_end(void) {
+    int i = 0;
+    while (i != count * 2) i = i + 2 * steps;
+    return 1;
+}
+
+void worker(int self) {
+    __transaction_atomic { sum = sum + self; }
+    __transaction_atomic { count = count + 1; }
+    __transaction_atomic { steps = 0; }
+}

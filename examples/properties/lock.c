@@ -1,0 +1,14 @@
+// A lock made of transactions: a thread tests it and takes it in one. Inside it counts itself in, and out again.
+int taken, inside, entered;
+
+int alone(void) { return inside <= 1; }
+
+void worker(int self) {
+    int mine = 0;
+    while (!mine) {
+        __transaction_atomic { mine = !taken; if (mine) taken = 1; }
+    }
+    __transaction_atomic { inside = inside + 1; }
+    __transaction_atomic { inside = inside - 1; entered = entered + 1; }
+    __transaction_atomic { taken = 0; }
+}

@@ -1,0 +1,22 @@
+// A queue of two places: even threads put three numbers into it, odd ones take three. Who finds no place or no number waits.
+int slots[2], head, count, sum;
+
+int within(void) { return count >= 0 && count <= 2; }
+int all_taken(void) { return count == 0 && sum % 6 == 0; }
+
+void worker(int self) {
+    int i, done;
+    for (i = 1; i <= 3; i++) {
+        do {
+            __transaction_atomic {
+                if (self % 2 == 0) {
+                    done = count < 2;
+                    if (done) { slots[(head + count) % 2] = i; count = count + 1; }
+                } else {
+                    done = count > 0;
+                    if (done) { sum = sum + slots[head]; head = (head + 1) % 2; count = count - 1; }
+                }
+            }
+        } while (!done);
+    }
+}

@@ -1,0 +1,14 @@
+// Two seats, and buyers who look and buy in one transaction: no seat is sold twice.
+int seats = 2, buyer[2] = {-1, -1}, sold;
+
+int no_seat_twice(void) { return sold + seats == 2 && seats >= 0; }
+
+void worker(int self) {
+    __transaction_atomic {
+        if (seats > 0) {
+            seats = seats - 1;
+            buyer[seats] = self;
+            sold = sold + 1;
+        }
+    }
+}

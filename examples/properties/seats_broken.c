@@ -1,0 +1,15 @@
+// Two seats, and buyers who look in one transaction and buy in the next: with three of them a seat is sold that is not there.
+int seats = 2, sold;
+
+int no_seat_twice(void) { return sold + seats == 2 && seats >= 0; }
+
+void worker(int self) {
+    int free;
+    __transaction_atomic { free = seats > 0; }
+    if (free) {
+        __transaction_atomic {
+            seats = seats - 1;
+            sold = sold + 1;
+        }
+    }
+}
