@@ -850,10 +850,16 @@ fn fifth_transcripts() -> &'static [Transcript] {
     &ROWS
 }
 
-/// Whether this is what was served: the output, and behind it the standard error.
+/// What a terminal shows of a line once it is whole: what stands behind the last return to its begin, since the line that
+/// tells how far a walk is ends in blanks and such a return.
+fn left_of(line: &[u8]) -> Option<&[u8]> {
+    line.rsplit(|byte| *byte == b'\r').next()
+}
+
+/// Whether this is what was served: the output, and behind it what stays of the standard error.
 fn shows(served: &Served, shown: &[u8]) -> bool {
     let out = served.out.as_slice();
-    shown.starts_with(out) && shown.get(out.len()..) == Some(served.err.as_slice())
+    shown.starts_with(out) && shown.get(out.len()..) == left_of(served.err.as_slice())
 }
 
 /// Whether a terminal shows this of a command line.
