@@ -10,7 +10,7 @@ use Rattle.command.specs.inner.Refusals.{AreNoTask}
 
 -- no steps, no replay
 pub no_replay : (given : List Row) → ((steps : Steps) → AreSteps given steps → ⊥) → AreNoTask (codes "replay") given
-no_replay given none (Check warns all) is = let e : 114 ≡ 99 = ap (λ l. slice_index l 0) is.0 in absurd (omega (arith, e))
+no_replay given none (Check told) is = let e : 114 ≡ 99 = ap (λ l. slice_index l 0) is.0 in absurd (omega (arith, e))
 no_replay given none Listing is = let e : 114 ≡ 108 = ap (λ l. slice_index l 0) is in absurd (omega (arith, e))
 no_replay given none (Run threads budget counts memory) is = let e : 6 ≡ 3 = ap length is.0 in absurd (omega (arith, e))
 no_replay given none (Replay threads steps) is = none steps is.2
@@ -23,7 +23,7 @@ no_replay given none (Outcomes threads steps limit memory) is = let e : 114 ≡ 
 
 -- no first access to be drawn, no picture
 pub no_drawn : (given : List Row) → ((n : ℕ) → IsFirstDrawn given n → ⊥) → IsFlagged given (codes "picture") → AreNoTask (codes "replay") given
-no_drawn given none drawn (Check warns all) is = let e : 114 ≡ 99 = ap (λ l. slice_index l 0) is.0 in absurd (omega (arith, e))
+no_drawn given none drawn (Check told) is = let e : 114 ≡ 99 = ap (λ l. slice_index l 0) is.0 in absurd (omega (arith, e))
 no_drawn given none drawn Listing is = let e : 114 ≡ 108 = ap (λ l. slice_index l 0) is in absurd (omega (arith, e))
 no_drawn given none drawn (Run threads budget counts memory) is = let e : 6 ≡ 3 = ap length is.0 in absurd (omega (arith, e))
 no_drawn given none drawn (Replay threads steps) is = let e : false ≡ true = is.3.picture_is.1 drawn in cc
@@ -42,7 +42,7 @@ no_ordered given text said none (Order order) are = none order.items are.order_i
 
 -- no order, no run of the source
 pub no_source : (given : List Row) → ((order : List ℕ) → IsOrderGiven given order → ⊥) → AreNoTask (codes "source") given
-no_source given none (Check warns all) is = let e : 115 ≡ 99 = ap (λ l. slice_index l 0) is.0 in absurd (omega (arith, e))
+no_source given none (Check told) is = let e : 115 ≡ 99 = ap (λ l. slice_index l 0) is.0 in absurd (omega (arith, e))
 no_source given none Listing is = let e : 115 ≡ 108 = ap (λ l. slice_index l 0) is in absurd (omega (arith, e))
 no_source given none (Run threads budget counts memory) is = let e : 115 ≡ 114 = ap (λ l. slice_index l 0) is.0 in absurd (omega (arith, e))
 no_source given none (Replay threads steps) is = let e : 115 ≡ 114 = ap (λ l. slice_index l 0) is.0 in absurd (omega (arith, e))

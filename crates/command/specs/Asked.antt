@@ -151,8 +151,8 @@ are_asked given = is_some (first_of (codes "always") given) || is_some (first_of
 
 -- what is done with a program whose outcomes are compared with nothing, and of which no function is asked
 abbrev pub IsTask : Text → List Row → Task → Type 0
-IsTask name given (Check warns all) = (name ≡ codes "check") × (IsTrue warns ↔ IsFlagged given (codes "warn"))
-    × (IsTrue all ↔ IsFlagged given (codes "all"))
+IsTask name given (Check told) = (name ≡ codes "check") × (IsTrue told.warns ↔ IsFlagged given (codes "warn"))
+    × (IsTrue told.all ↔ IsFlagged given (codes "all"))
 IsTask name given Listing = name ≡ codes "listing"
 IsTask name given (Run threads budget counts memory) = (name ≡ codes "run") × AreThreadsGiven given threads
     × IsNumberInRange given (codes "budget") 4294967295 0 4294967295 budget

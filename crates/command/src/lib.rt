@@ -15,5 +15,5 @@ mod task;
 pub use listed::listed_order;
 pub use read::command;
 pub use request::{
-    Against, Claim, Comparison, Format, Questions, Request, Steps, Task, UsageFault,
+    Against, CheckOptions, Claim, Comparison, Format, Questions, Request, Steps, Task, UsageFault,
 };

@@ -111,16 +111,20 @@ pub enum Format {
     Json,
 }
 
+/// What is told beside a verdict on a program.
+#[derive(Clone, Copy, Debug)]
+pub struct CheckOptions {
+    /// Whether it is told what is warned of a program that is accepted.
+    pub warns: bool,
+    /// Whether more faults than the first are told of one that is refused.
+    pub all: bool,
+}
+
 /// What is done with a program.
 #[derive(Debug, Drop)]
 pub enum Task {
     /// Says whether the program is accepted.
-    Check {
-        /// Whether it is told what is warned of one that is accepted.
-        warns: bool,
-        /// Whether more faults than the first are told of one that is refused.
-        all: bool,
-    },
+    Check(CheckOptions),
     /// Lists the program's code.
     Listing,
     /// Runs the program: 1 to 64 threads, each with so many steps at most, over so many MB of memory.

@@ -11,7 +11,7 @@ use crate::given::{
     flag_given, is_given, number_given, out_of_range, text_given, text_wanted, wrong,
 };
 use crate::order::order;
-use crate::request::{Steps, Task, UsageFault};
+use crate::request::{CheckOptions, Steps, Task, UsageFault};
 use clap::ArgMatches;
 use std::alloc::Global;
 
@@ -223,10 +223,10 @@ pub(crate) fn task(alloc: Global, name: &str, given: &ArgMatches<'_>) -> Result<
     ensures err { IfErr result (IsOwn (AreNoTask name.now (rows_of (found_of given.now)))) }
 {
     match name {
-        "check" => Ok(Task::Check {
+        "check" => Ok(Task::Check(CheckOptions {
             warns: flag_given(given, "warn"),
             all: flag_given(given, "all"),
-        }),
+        })),
         "listing" => Ok(Task::Listing),
         "run" => Ok(Task::Run {
             threads: threads(alloc, given)?,

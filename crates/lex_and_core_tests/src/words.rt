@@ -88,7 +88,7 @@ fn words() -> &'static [Row] {
     static ROWS: [Row; 7] = [
         (
             "txc|check|a.c|--format=json",
-            br#"Ok(Program { file: "a.c", verbose: false, format: Json, task: Check { warns: false, all: false } })"#,
+            br#"Ok(Program { file: "a.c", verbose: false, format: Json, task: Check(CheckOptions { warns: false, all: false }) })"#,
         ),
         (
             "txc|listing|a.c",
@@ -96,7 +96,7 @@ fn words() -> &'static [Row] {
         ),
         (
             "txc|check|--verbose|b.c",
-            br#"Ok(Program { file: "b.c", verbose: true, format: Plain, task: Check { warns: false, all: false } })"#,
+            br#"Ok(Program { file: "b.c", verbose: true, format: Plain, task: Check(CheckOptions { warns: false, all: false }) })"#,
         ),
         ("txc|explain|40", b"Ok(Explain { number: 40 })"),
         (

@@ -1,6 +1,6 @@
 -- What a status says of properties.
-use Rattle.std.proofs.Common.{◌≡◌, ◌≢◌, ◌⊎◌, inl, inr, ℕ, Bool, true, false, List, [], ◌∷◌, ◌++◌, ◌<◌, All, Contains, Option, None, Some, map, length, get_or, ap, refl, sym, subst, arith}
-use Rattle.std.specs.Prelude.{◌||◌, IfSome}
+use Rattle.std.proofs.Common.{◌≡◌, ◌≢◌, ◌⊎◌, inl, inr, ℕ, Bool, true, false, List, [], ◌∷◌, ◌++◌, ◌<◌, All, Contains, Option, map, length, get_or, ap, refl, sym, subst, arith}
+use Rattle.std.specs.Prelude.{◌||◌}
 use Rattle.std.specs.List.{list_any}
 use Rattle.std.specs.Io.KnownBytes.{Appends}
 use Rattle.std.proofs.lemmas.List.{get_or-map, length-map}
@@ -19,14 +19,11 @@ use Rattle.report.specs.declared.outcome_list.WalkEnd.{WalkEnd}
 use Rattle.report.specs.declared.outcome_list.WalkEnd.TheVariants.{Whole}
 use Rattle.report.specs.declared.properties.Property.{Property as Own}
 use Rattle.serving.specs.Checks.{IsSourceOf}
-use Rattle.serving.specs.Limits.{HasNoCode}
 use Rattle.serving.specs.Askable.{IsAskable}
 use Rattle.serving.specs.Properties.{AnswersQuestions, AreAnswered, AreAskable, AreFoundOfText, HasUnaskable, IsAsked, IsTextOfProperties, IsToldOf, IsUnaskable, TellsProperties, asked_by, asked_each, has_failed, has_unheld}
-use Rattle.serving.specs.Refusals.{IsRefused}
 use Rattle.serving.specs.Written.{WritesPart}
 use Rattle.serving.specs.inner.Properties.{AreThese}
 use Rattle.serving.proofs.Parts.{part_so}
-use Rattle.serving.proofs.Refusals.{refused_text, unread_refused}
 
 -- ---- what was found by one definition was found by another
 
@@ -84,30 +81,6 @@ not_one status (inr e) = λ z. absurd (omega (arith, e, z))
 
 pub refused_tells : (Are : WalkEnd → List Property → List ReportedOrder → Type 0) (status : ℕ) (old new : Option (List ℕ)) → (status ≡ 2) ⊎ (status ≡ 4) → TellsProperties Are status old new
 refused_tells Are status old new is = tells_nothing Are status old new (not_zero status is) (not_five status is)
-
-pub unread_tells : (known : Option (List ℕ)) (questions : Questions) (status : ℕ) (old new : Option (List ℕ)) → (status ≡ 2) ⊎ (status ≡ 4) → IfSome known (λ bytes. AnswersQuestions questions bytes status old new)
-unread_tells None questions status old new is = tt
-unread_tells (Some bytes) questions status old new is = refused_tells (AreFoundOfText questions bytes) status old new is
-
--- what is said of the bytes of a file that was opened
-pub answers_opened : (known file : Option (List ℕ)) (questions : Questions) (status : ℕ) (old new : Option (List ℕ)) → known ≡ file → IfSome known (λ bytes. AnswersQuestions questions bytes status old new) → IfSome file (λ bytes. AnswersQuestions questions bytes status old new)
-answers_opened known file questions status old new same answers = subst (λ k. IfSome k (λ bytes. AnswersQuestions questions bytes status old new)) same answers
-
-pub writes_opened : (known file : Option (List ℕ)) (questions : Questions) (old new : Option (List ℕ)) → known ≡ file → IfSome known (λ bytes. WritesPart (IsToldOf questions bytes) old new) → IfSome file (λ bytes. WritesPart (IsToldOf questions bytes) old new)
-writes_opened known file questions old new same writes = subst (λ k. IfSome k (λ bytes. WritesPart (IsToldOf questions bytes) old new)) same writes
-
-pub unread_text : {IsOne : Type 0} (known : Option (List ℕ)) (questions : Questions) (status : ℕ) (old new : Option (List ℕ)) → (status ≡ 1) × IsOne ⊎ (status ≡ 2) ⊎ (status ≡ 4) → IfSome known (λ bytes. AnswersQuestions questions bytes status old new)
-unread_text None questions status old new is = tt
-unread_text (Some bytes) questions status old new (inl one) = tells_nothing (AreFoundOfText questions bytes) status old new (λ z. absurd (omega (arith, one.0, z))) (λ z. absurd (omega (arith, one.0, z)))
-unread_text (Some bytes) questions status old new (inr is) = refused_tells (AreFoundOfText questions bytes) status old new is
-
-pub nothing_known : (known : Option (List ℕ)) (questions : Questions) (old new : Option (List ℕ)) → new ≡ old → IfSome known (λ bytes. WritesPart (IsToldOf questions bytes) old new)
-nothing_known None questions old new same = tt
-nothing_known (Some bytes) questions old new same = inl same
-
-pub unread_no_code : (known : Option (List ℕ)) (status : ℕ) → (status ≡ 1) × IfSome known (λ bytes. IsRefused bytes) ⊎ (status ≡ 2) ⊎ (status ≡ 4) → status ≡ 1 → IfSome known (λ bytes. HasNoCode bytes)
-unread_no_code None status is e = tt
-unread_no_code (Some bytes) status is e = refused_text bytes (unread_refused status is e)
 
 -- ---- what was printed
 

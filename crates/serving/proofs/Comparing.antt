@@ -81,14 +81,6 @@ module _ (c : Comparison) (other : Option (List ℕ)) (status : ℕ) (old new : 
       known_all (λ bytes. Tells (Confirms c.against c.threads text bytes) (Denies c.against c.threads text bytes) status old new)
       (λ bytes. tells_nothing (Confirms c.against c.threads text bytes) (Denies c.against c.threads text bytes) status old new no_zero no_five) other
 
-  -- that of a file that was not read
-  pub not_read_compares : (known : Option (List ℕ)) → (status ≡ 2) ⊎ (status ≡ 4) → IfSome known (λ bytes. ComparesOutcomes c other bytes status old new)
-  not_read_compares known is = known_all (λ bytes. ComparesOutcomes c other bytes status old new) (λ bytes. nothing_compared bytes (not_zero status is) (not_five status is)) known
-
-  pub unread_compares : {IsOne : Type 0} (known : Option (List ℕ)) → (status ≡ 1) × IsOne ⊎ (status ≡ 2) ⊎ (status ≡ 4) → IfSome known (λ bytes. ComparesOutcomes c other bytes status old new)
-  unread_compares known (inl one) = known_all (λ bytes. ComparesOutcomes c other bytes status old new) (λ bytes. nothing_compared bytes (λ z. absurd (omega (arith, one.0, z))) (λ z. absurd (omega (arith, one.0, z)))) known
-  unread_compares known (inr is) = not_read_compares known is
-
 -- a status is passed on
 pub passed_on : {IsOne : Type 0} (status told : ℕ) → told ≡ status → (status ≡ 1) × IsOne ⊎ (status ≡ 2) ⊎ (status ≡ 4) → (told ≡ 1) × IsOne ⊎ (told ≡ 2) ⊎ (told ≡ 4)
 passed_on status told same (inl one) = inl (same ∙ one.0, one.1)
@@ -103,9 +95,6 @@ nothing_compared_written c other text old new same = known_all (λ bytes. Writes
 pub lacks_code : (against : Against) (other : Option (List ℕ)) (text : List ℕ) → IsRefused text → HaveNoCode against other text
 lacks_code (Refined file) other text is = inl (refused_text text is)
 lacks_code (Expected file) other text is = refused_text text is
-
-pub unread_lacks : (known : Option (List ℕ)) (against : Against) (other : Option (List ℕ)) (status : ℕ) → (status ≡ 1) × IfSome known (λ bytes. IsRefused bytes) ⊎ (status ≡ 2) ⊎ (status ≡ 4) → status ≡ 1 → IfSome known (λ bytes. HaveNoCode against other bytes)
-unread_lacks known against other status is e = known_so (λ bytes. IsRefused bytes) (λ bytes. HaveNoCode against other bytes) (lacks_code against other) known (unread_refused status is e)
 
 -- ---- by what outcomes are compared with
 
@@ -126,27 +115,6 @@ module _ (c : Comparison) (file : String Global) (text : List ℕ) (other : Opti
 
   pub comparison_expected : (old new : Option (List ℕ)) → c.against ≡ Expected file → IfSome other (λ bytes. WritesPart (IsEither (SaysExpected (IsListOfOutcomes c.threads text) bytes) (ShowsUnexpected (IsListOfOutcomes c.threads text) bytes)) old new) → WritesComparison c other text old new
   comparison_expected old new is w = subst (λ a. IfSome other (λ bytes. WritesPart (IsEither (Confirms a c.threads text bytes) (Denies a c.threads text bytes)) old new)) (sym is) w
-
--- ---- what was opened has the bytes of its file
-
-module _ (c : Comparison) (old new : Option (List ℕ)) where
-  pub compares_opened : (known file other : Option (List ℕ)) (status : ℕ) → known ≡ file → IfSome known (λ bytes. ComparesOutcomes c other bytes status old new) → IfSome file (λ bytes. ComparesOutcomes c other bytes status old new)
-  compares_opened known file other status same t = subst (λ k. IfSome k (λ bytes. ComparesOutcomes c other bytes status old new)) same t
-
-  pub comparison_opened : (known file other : Option (List ℕ)) → known ≡ file → IfSome known (λ bytes. WritesComparison c other bytes old new) → IfSome file (λ bytes. WritesComparison c other bytes old new)
-  comparison_opened known file other same w = subst (λ k. IfSome k (λ bytes. WritesComparison c other bytes old new)) same w
-
-  pub compares_other : (known other file : Option (List ℕ)) (status : ℕ) → other ≡ file → IfSome known (λ bytes. ComparesOutcomes c other bytes status old new) → IfSome known (λ bytes. ComparesOutcomes c file bytes status old new)
-  compares_other known other file status same t = subst (λ o. IfSome known (λ bytes. ComparesOutcomes c o bytes status old new)) same t
-
-  pub comparison_other : (known other file : Option (List ℕ)) → other ≡ file → IfSome known (λ bytes. WritesComparison c other bytes old new) → IfSome known (λ bytes. WritesComparison c file bytes old new)
-  comparison_other known other file same w = subst (λ o. IfSome known (λ bytes. WritesComparison c o bytes old new)) same w
-
-pub lacks_opened : (against : Against) (known file other : Option (List ℕ)) → known ≡ file → IfSome known (λ bytes. HaveNoCode against other bytes) → IfSome file (λ bytes. HaveNoCode against other bytes)
-lacks_opened against known file other same is = subst (λ k. IfSome k (λ bytes. HaveNoCode against other bytes)) same is
-
-pub lacks_other : (against : Against) (known other file : Option (List ℕ)) → other ≡ file → IfSome known (λ bytes. HaveNoCode against other bytes) → IfSome known (λ bytes. HaveNoCode against file bytes)
-lacks_other against known other file same is = subst (λ o. IfSome known (λ bytes. HaveNoCode against o bytes)) same is
 
 -- ---- lists that are expected
 

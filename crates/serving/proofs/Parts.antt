@@ -1,5 +1,5 @@
 -- Beginnings of texts that are written.
-use Rattle.std.proofs.Common.{◌≡◌, ◌∙◌, ◌+◌, ◌-◌, ◌<◌, ◌≤◌, ◌++◌, ◌∷◌, [], arith, ℕ, List, Option, None, Some, length, take, drop, get_or, inl, inr, ap, subst, sym, append_assoc, append-nil}
+use Rattle.std.proofs.Common.{◌≡◌, ◌≢◌, ◌∙◌, ◌⊎◌, ◌+◌, ◌-◌, ◌<◌, ◌≤◌, ◌++◌, ◌∷◌, [], arith, ℕ, List, Option, None, Some, length, take, drop, get_or, inl, inr, ap, subst, sym, append_assoc, append-nil}
 use Rattle.std.specs.Prelude.{flat_map}
 use Rattle.std.proofs.Math.Seq.{take-add, take-append_seam}
 use Rattle.std.proofs.lemmas.Grind.{flat_map-append}
@@ -30,6 +30,15 @@ part_unchanged (Some x) (Some y) (Some z) bs p q = q ∙ p
 pub part_so : (IsSo Is : List ℕ → Type 0) (old new : Option (List ℕ)) → ((text : List ℕ) → IsSo text → Is text) → WritesPart IsSo old new → WritesPart Is old new
 part_so IsSo Is old new weaker (inl e) = inl e
 part_so IsSo Is old new weaker (inr w) = inr (w.0, weaker w.0 w.1, w.2)
+
+-- the status of a text that is printed
+pub printed_within : (status : ℕ) → (status ≡ 0) ⊎ (status ≡ 4) → status ≤ 4
+printed_within status (inl ended) = omega (arith, ended)
+printed_within status (inr stopped) = omega (arith, stopped)
+
+pub printed_unrefused : (status : ℕ) → (status ≡ 0) ⊎ (status ≡ 4) → status ≢ 1
+printed_unrefused status (inl ended) = λ one. absurd (omega (arith, ended, one))
+printed_unrefused status (inr stopped) = λ one. absurd (omega (arith, stopped, one))
 
 -- ---- pieces of a text, one behind another
 

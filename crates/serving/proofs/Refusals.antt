@@ -44,8 +44,8 @@ uncoded text source fault spelled accepted is = record {
 pub refused_text : (text : List ℕ) → IsRefused text → HasNoCode text
 refused_text text is = (is.0, faulty text is.0 is.1, is.2)
 
-refused_task : (task : Task) (text : List ℕ) → IsRefused text → IsRefusedFor task text
-refused_task (Check warns all) text is = is
+pub refused_task : (task : Task) (text : List ℕ) → IsRefused text → IsRefusedFor task text
+refused_task (Check told) text is = is
 refused_task Listing text is = refused_text text is
 refused_task (Run threads budget counts memory) text is = refused_text text is
 refused_task (Replay threads steps) text is = refused_text text is
@@ -66,8 +66,8 @@ neither status zero three (inl e) = zero e
 neither status zero three (inr e) = three e
 
 -- a status that tells of nothing printed answers each task
-nothing_printed : (task : Task) (schedule : Option (List ℕ)) (text : List ℕ) (status : ℕ) (old new : Option (List ℕ)) → status ≢ 0 → status ≢ 3 → Answers task schedule text status old new
-nothing_printed (Check warns all) schedule text status old new zero three = λ e. absurd (zero e)
+pub nothing_printed : (task : Task) (schedule : Option (List ℕ)) (text : List ℕ) (status : ℕ) (old new : Option (List ℕ)) → status ≢ 0 → status ≢ 3 → Answers task schedule text status old new
+nothing_printed (Check told) schedule text status old new zero three = λ e. absurd (zero e)
 nothing_printed Listing schedule text status old new zero three = λ e. absurd (zero e)
 nothing_printed (Run threads budget counts memory) schedule text status old new zero three = λ e. absurd (neither status zero three e)
 nothing_printed (Replay threads steps) schedule text status old new zero three = λ e. absurd (neither status zero three e)
@@ -78,24 +78,8 @@ nothing_printed (PrintOrder threads order) schedule text status old new zero thr
 nothing_printed (Source threads order ticks) schedule text status old new zero three = λ e. absurd (neither status zero three e)
 nothing_printed (Outcomes threads steps limit memory) schedule text status old new zero three = λ e. absurd (neither status zero three e)
 
--- that of a file that was not read
-pub not_read_answers : (known : Option (List ℕ)) (task : Task) (schedule : Option (List ℕ)) (status : ℕ) (old new : Option (List ℕ)) → (status ≡ 2) ⊎ (status ≡ 4) → IfSome known (λ bytes. Answers task schedule bytes status old new)
-not_read_answers None task schedule status old new is = tt
-not_read_answers (Some bytes) task schedule status old new (inl e) = nothing_printed task schedule bytes status old new (λ z. absurd (omega (arith, e, z))) (λ z. absurd (omega (arith, e, z)))
-not_read_answers (Some bytes) task schedule status old new (inr e) = nothing_printed task schedule bytes status old new (λ z. absurd (omega (arith, e, z))) (λ z. absurd (omega (arith, e, z)))
-
--- that of a source that is refused before it is read to its end, or was not read
-pub unread_answers : {IsOne : Type 0} (known : Option (List ℕ)) (task : Task) (schedule : Option (List ℕ)) (status : ℕ) (old new : Option (List ℕ)) → (status ≡ 1) × IsOne ⊎ (status ≡ 2) ⊎ (status ≡ 4) → IfSome known (λ bytes. Answers task schedule bytes status old new)
-unread_answers None task schedule status old new is = tt
-unread_answers (Some bytes) task schedule status old new (inl one) = nothing_printed task schedule bytes status old new (λ z. absurd (omega (arith, one.0, z))) (λ z. absurd (omega (arith, one.0, z)))
-unread_answers (Some bytes) task schedule status old new (inr is) = not_read_answers (Some bytes) task schedule status old new is
-
 -- what the status 1 says there
 pub unread_refused : {IsOne : Type 0} (status : ℕ) → (status ≡ 1) × IsOne ⊎ (status ≡ 2) ⊎ (status ≡ 4) → status ≡ 1 → IsOne
 unread_refused status (inl one) e = one.1
 unread_refused status (inr (inl two)) e = absurd (omega (arith, two, e))
 unread_refused status (inr (inr four)) e = absurd (omega (arith, four, e))
-
-pub unread_says : (known : Option (List ℕ)) (task : Task) (status : ℕ) → (status ≡ 1) × IfSome known (λ bytes. IsRefused bytes) ⊎ (status ≡ 2) ⊎ (status ≡ 4) → status ≡ 1 → IfSome known (λ bytes. IsRefusedFor task bytes)
-unread_says None task status is e = tt
-unread_says (Some bytes) task status is e = refused_task task bytes (unread_refused status is e)

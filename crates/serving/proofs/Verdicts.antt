@@ -112,41 +112,6 @@ claim_written claim None report text order source old new lists spelled accepted
 claim_written claim (Some bytes) report text order source old new lists spelled accepted w =
     writes_verdict_known (IsReportOf (IsOrderOf source.program claim.threads claim.ticks order)) (IsPrintedInOrder claim bytes text) report old new (printed_in_order claim bytes text order source lists spelled accepted) w
 
--- ---- a source that was not read
-
-pub unread_certifies : {IsOne : Type 0} (known : Option (List ℕ)) (claim : Claim) (listed report : Option (List ℕ)) (status : ℕ) (old new : Option (List ℕ)) → (status ≡ 1) × IsOne ⊎ (status ≡ 2) ⊎ (status ≡ 4) → IfSome known (λ bytes. CertifiesReport claim listed report bytes status old new)
-unread_certifies None claim listed report status old new is = tt
-unread_certifies (Some bytes) claim listed report status old new (inl one) = no_claim_verdict claim listed report bytes status old new (λ z. absurd (omega (arith, one.0, z))) (λ z. absurd (omega (arith, one.0, z)))
-unread_certifies (Some bytes) claim listed report status old new (inr is) = no_claim_verdict claim listed report bytes status old new (not_zero status is) (not_five status is)
-
-pub nothing_written_known : (known : Option (List ℕ)) (claim : Claim) (listed report : Option (List ℕ)) (old new : Option (List ℕ)) → new ≡ old → IfSome known (λ bytes. WritesVerdict claim listed report bytes old new)
-nothing_written_known None claim listed report old new same = tt
-nothing_written_known (Some bytes) claim listed report old new same = nothing_claimed claim listed report bytes old new same
-
-pub not_read_certifies : (known : Option (List ℕ)) (claim : Claim) (listed report : Option (List ℕ)) (status : ℕ) (old new : Option (List ℕ)) → (status ≡ 2) ⊎ (status ≡ 4) → IfSome known (λ bytes. CertifiesReport claim listed report bytes status old new)
-not_read_certifies None claim listed report status old new is = tt
-not_read_certifies (Some bytes) claim listed report status old new is = no_claim_verdict claim listed report bytes status old new (not_zero status is) (not_five status is)
-
--- ---- what was opened has the bytes of its file
-
-pub certifies_opened : (known file : Option (List ℕ)) (claim : Claim) (listed report : Option (List ℕ)) (status : ℕ) (old new : Option (List ℕ)) → known ≡ file → IfSome known (λ bytes. CertifiesReport claim listed report bytes status old new) → IfSome file (λ bytes. CertifiesReport claim listed report bytes status old new)
-certifies_opened known file claim listed report status old new same c = subst (λ k. IfSome k (λ bytes. CertifiesReport claim listed report bytes status old new)) same c
-
-pub writes_opened : (known file : Option (List ℕ)) (claim : Claim) (listed report old new : Option (List ℕ)) → known ≡ file → IfSome known (λ bytes. WritesVerdict claim listed report bytes old new) → IfSome file (λ bytes. WritesVerdict claim listed report bytes old new)
-writes_opened known file claim listed report old new same w = subst (λ k. IfSome k (λ bytes. WritesVerdict claim listed report bytes old new)) same w
-
-pub certifies_listed : (known : Option (List ℕ)) (claim : Claim) (listed file report : Option (List ℕ)) (status : ℕ) (old new : Option (List ℕ)) → listed ≡ file → IfSome known (λ bytes. CertifiesReport claim listed report bytes status old new) → IfSome known (λ bytes. CertifiesReport claim file report bytes status old new)
-certifies_listed known claim listed file report status old new same c = subst (λ l. IfSome known (λ bytes. CertifiesReport claim l report bytes status old new)) same c
-
-pub writes_listed : (known : Option (List ℕ)) (claim : Claim) (listed file report old new : Option (List ℕ)) → listed ≡ file → IfSome known (λ bytes. WritesVerdict claim listed report bytes old new) → IfSome known (λ bytes. WritesVerdict claim file report bytes old new)
-writes_listed known claim listed file report old new same w = subst (λ l. IfSome known (λ bytes. WritesVerdict claim l report bytes old new)) same w
-
-pub certifies_reported : (known : Option (List ℕ)) (claim : Claim) (listed report file : Option (List ℕ)) (status : ℕ) (old new : Option (List ℕ)) → report ≡ file → IfSome known (λ bytes. CertifiesReport claim listed report bytes status old new) → IfSome known (λ bytes. CertifiesReport claim listed file bytes status old new)
-certifies_reported known claim listed report file status old new same c = subst (λ r. IfSome known (λ bytes. CertifiesReport claim listed r bytes status old new)) same c
-
-pub writes_reported : (known : Option (List ℕ)) (claim : Claim) (listed report file old new : Option (List ℕ)) → report ≡ file → IfSome known (λ bytes. WritesVerdict claim listed report bytes old new) → IfSome known (λ bytes. WritesVerdict claim listed file bytes old new)
-writes_reported known claim listed report file old new same w = subst (λ r. IfSome known (λ bytes. WritesVerdict claim listed r bytes old new)) same w
-
 -- ---- the report of an order
 
 -- words are the numbers of one order

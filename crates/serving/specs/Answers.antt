@@ -23,7 +23,7 @@ use Rattle.serving.specs.Replays.{behind_events, lines_of_seed}
 -- schedule, whose bytes may be known
 abbrev pub Answers : Task → (schedule : Option (List ℕ)) → (text : List ℕ) → (status : ℕ) →
     (old new : Option (List ℕ)) → Type 0
-Answers (Check warns all) schedule text status old new = SaysAccepted text status old new
+Answers (Check told) schedule text status old new = SaysAccepted text status old new
 Answers Listing schedule text status old new = PrintsListing text status old new
 Answers (Run threads budget counts memory) schedule text status old new =
     PrintsReport (λ shown. RunsInSomeOrder threads text shown × Accepts text

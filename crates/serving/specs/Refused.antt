@@ -11,7 +11,7 @@ use Rattle.serving.specs.Refusals.{IsRefused}
 
 -- why a task with a text is refused: a limit of code is no reason for one that makes no code
 abbrev pub IsRefusedFor : Task → (text : List ℕ) → Type 0
-IsRefusedFor (Check warns all) text = IsRefused text
+IsRefusedFor (Check told) text = IsRefused text
 IsRefusedFor Listing text = HasNoCode text
 IsRefusedFor (Run threads budget counts memory) text = HasNoCode text
 IsRefusedFor (Replay threads steps) text = HasNoCode text

@@ -65,7 +65,7 @@ IsOrderSchedule threads order text written =
 
 -- what a task asks to be written
 abbrev pub IsAskedFor : Task → (schedule : Option (List ℕ)) → (text : List ℕ) → (written : List ℕ) → Type 0
-IsAskedFor (Check warns all) schedule text written = Accepts text × (written ≡ codes "accepted\n")
+IsAskedFor (Check told) schedule text written = Accepts text × (written ≡ codes "accepted\n")
 IsAskedFor Listing schedule text written = ShowsListing text written
 IsAskedFor (Run threads budget counts memory) schedule text written = IsReportOf (RunsConcurrently threads budget text) written
 IsAskedFor (Replay threads steps) schedule text written = IsReplayReport threads steps schedule text written

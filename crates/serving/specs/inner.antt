@@ -4,9 +4,11 @@ pub mod ThreadReports
 pub mod Replayed
 -- the words beyond those of globals
 pub mod Words
+-- what an exit status says, and what is written
+pub mod Serves
 -- what a status says of a report that was printed
 pub mod Printing
--- what a fault of running a text's threads says
+-- what running a text's threads leaves, and what a fault of it says
 pub mod Threads
 -- reports by runs of the source
 pub mod Serial

@@ -10,6 +10,7 @@ ghost use Rattle.serving.specs.Limits.{HasNoCode, IsFaultInOrders};
 ghost use Rattle.serving.specs.Outcomes.{AreOutcomesOfText, IsListOfOutcomes, PrintsOutcomes, outcomes_status};
 ghost use Rattle.serving.specs.Reports.{has_trapped};
 ghost use Rattle.serving.specs.Written.{WritesPart};
+ghost use Rattle.serving.specs.inner.Serves.{ServesText};
 
 use crate::listed_ends::tell_listed_ends;
 use crate::print::{ENDED, STOPPED, TRAPPED, has_trapped, print};
@@ -33,11 +34,8 @@ pub(crate) fn all_outcomes<A: Allocator + Copy, W: Write, E: Write>(
     out: &mut W,
     err: &mut E,
 ) -> u8
-    ensures status { result ≤ 4 }
-    ensures outcomes { PrintsOutcomes threads text.now result (W.contents out.old) (W.contents out.new) }
-    ensures refused { result ≡ 1 → HasNoCode text.now }
-    ensures written { WritesPart (IsListOfOutcomes threads text.now) (W.contents out.old) (W.contents out.new) }
-    ensures untouched { result ≡ 1 → W.contents out.new ≡ W.contents out.old }
+    ensures { ServesText (PrintsOutcomes threads text.now) (HasNoCode text.now) (IsListOfOutcomes threads text.now)
+        result (W.contents out.old) (W.contents out.new) }
 {
     match list_outcomes(
         alloc,

@@ -3,18 +3,19 @@
 
 ghost use Rattle.std.specs.Prelude.{◌≡◌, ◌≢◌, ◌≤◌, ◌⊎◌, ◌++◌, ◌==◌, [], All, IfNone, IfOk, IfSome, map, not, true, false};
 ghost use Rattle.std.specs.List.{list_any, slice_split};
+ghost use Rattle.std.specs.Prelude.{Some};
 ghost use Rattle.syntax.specs.Views.{program_of};
 ghost use Rattle.report.specs.PropertyViews.{property_of};
 ghost use Rattle.report.specs.Views.{reported_of};
 ghost use Rattle.report.specs.declared.outcome_list.WalkEnd.TheVariants.{Whole};
 ghost use Rattle.serving.specs.Codes.{IsCodeOf};
-ghost use Rattle.serving.specs.Limits.{HasNoCode};
 ghost use Rattle.serving.specs.Askable.{IsAskable};
-ghost use Rattle.serving.specs.Properties.{AnswersQuestions, AreAnswered, HasUnaskable, IsTextOfProperties, IsToldOf};
+ghost use Rattle.serving.specs.Properties.{AreAnswered, HasUnaskable, IsTextOfProperties};
 ghost use Rattle.serving.specs.Properties.{IsUnaskable, TellsProperties, asked_by, asked_each, has_failed, has_unheld};
 ghost use Rattle.serving.specs.Properties.{is_failed, is_held, names_listed};
 ghost use Rattle.serving.specs.Written.{WritesPart};
 ghost use Rattle.serving.specs.inner.Properties.{AreThese};
+ghost use Rattle.serving.specs.inner.Serves.{ServesQuestions};
 
 use crate::askable::{Unaskable, first_unaskable};
 use crate::files::{Files, text_of};
@@ -42,13 +43,8 @@ pub(crate) fn open_asked<A: Allocator + Copy, F: Files, W: Write, E: Write>(
     out: &mut W,
     err: &mut E,
 ) -> u8
-    ensures status { result ≤ 5 }
-    ensures answer { IfSome (F.contents files.now file.now)
-        (λ bytes. AnswersQuestions questions.now bytes result (W.contents out.old) (W.contents out.new)) }
-    ensures written { IfSome (F.contents files.now file.now)
-        (λ bytes. WritesPart (IsToldOf questions.now bytes) (W.contents out.old) (W.contents out.new)) }
-    ensures refused { result ≡ 1 → IfSome (F.contents files.now file.now) (λ bytes. HasNoCode bytes) }
-    ensures untouched { result ≡ 1 → W.contents out.new ≡ W.contents out.old }
+    ensures { ServesQuestions questions.now (F.contents files.now file.now) result (W.contents out.old)
+        (W.contents out.new) }
 {
     match files.open(file) {
         Ok(source) => ask(alloc, file, questions, source, detail, out, err),
@@ -67,13 +63,8 @@ pub(crate) fn ask<A: Allocator + Copy, R: Read + Drop, W: Write, E: Write>(
     out: &mut W,
     err: &mut E,
 ) -> u8
-    ensures status { result ≤ 5 }
-    ensures answer { IfSome (R.remaining source)
-        (λ bytes. AnswersQuestions questions.now bytes result (W.contents out.old) (W.contents out.new)) }
-    ensures written { IfSome (R.remaining source)
-        (λ bytes. WritesPart (IsToldOf questions.now bytes) (W.contents out.old) (W.contents out.new)) }
-    ensures refused { result ≡ 1 → IfSome (R.remaining source) (λ bytes. HasNoCode bytes) }
-    ensures untouched { result ≡ 1 → W.contents out.new ≡ W.contents out.old }
+    ensures { ServesQuestions questions.now (R.remaining source) result (W.contents out.old)
+        (W.contents out.new) }
 {
     match text_of(alloc, file, source, detail, err) {
         Ok(text) => ask_text(alloc, questions, text.as_str(), detail, out, err),
@@ -90,12 +81,9 @@ fn ask_text<A: Allocator + Copy, W: Write, E: Write>(
     out: &mut W,
     err: &mut E,
 ) -> u8
-    ensures status { result ≤ 5 }
-    ensures answer { AnswersQuestions questions.now text.now result (W.contents out.old) (W.contents out.new) }
-    ensures written { WritesPart (IsToldOf questions.now text.now) (W.contents out.old) (W.contents out.new) }
-    ensures refused { result ≡ 1 → HasNoCode text.now }
+    ensures serves { ServesQuestions questions.now (Some text.now) result (W.contents out.old)
+        (W.contents out.new) }
     ensures unaskable { result ≡ 2 → IsUnaskable questions.now text.now }
-    ensures untouched { result ≡ 1 → W.contents out.new ≡ W.contents out.old }
 {
     match compile(alloc, text) {
         Ok(compiled) => ask_program(alloc, questions, &compiled, detail, out, err),

@@ -1,12 +1,12 @@
 //! Certifying a report: whether it is what the source prints in an order of threads.
 
-ghost use Rattle.std.specs.Prelude.{◌≡◌, ◌≢◌, ◌≤◌, ◌⊎◌, IfErr, IfOk, IfSome, string_bytes};
+ghost use Rattle.std.specs.Prelude.{◌≡◌, ◌≢◌, ◌≤◌, ◌⊎◌, IfErr, IfOk, IfSome, string_bytes, Some};
 ghost use Rattle.command.specs.Asked.{IsListedOrder};
 ghost use Rattle.syntax.specs.Views.{program_of};
-ghost use Rattle.serving.specs.Certified.{Certifies, CertifiesReport, IsVerdict, WritesVerdict};
+ghost use Rattle.serving.specs.Certified.{Certifies, IsVerdict};
 ghost use Rattle.serving.specs.Orders.{IsOrderOf};
-ghost use Rattle.serving.specs.Refusals.{IsRefused};
 ghost use Rattle.serving.specs.Written.{IsReportOf, WritesPart};
+ghost use Rattle.serving.specs.inner.Serves.{ServesClaim};
 
 use crate::files::{Files, text_of};
 use crate::print::{REFUTED, print, print_text};
@@ -32,15 +32,9 @@ pub(crate) fn open_claim<A: Allocator + Copy, F: Files, W: Write, E: Write>(
     out: &mut W,
     err: &mut E,
 ) -> u8
-    ensures status { result ≤ 5 }
-    ensures answer { IfSome (F.contents files.now file.now)
-        (λ bytes. CertifiesReport claim.now (F.contents files.now (string_bytes claim.now.order))
-        (F.contents files.now (string_bytes claim.now.report)) bytes result (W.contents out.old) (W.contents out.new)) }
-    ensures written { IfSome (F.contents files.now file.now)
-        (λ bytes. WritesVerdict claim.now (F.contents files.now (string_bytes claim.now.order))
-        (F.contents files.now (string_bytes claim.now.report)) bytes (W.contents out.old) (W.contents out.new)) }
-    ensures refused { result ≡ 1 → IfSome (F.contents files.now file.now) (λ bytes. IsRefused bytes) }
-    ensures untouched { result ≡ 1 → W.contents out.new ≡ W.contents out.old }
+    ensures { ServesClaim claim.now (F.contents files.now (string_bytes claim.now.order))
+        (F.contents files.now (string_bytes claim.now.report)) (F.contents files.now file.now) result
+        (W.contents out.old) (W.contents out.new) }
 {
     match files.open(file) {
         Ok(source) => open_order(alloc, file, claim, source, files, detail, out, err),
@@ -59,15 +53,9 @@ fn open_order<A: Allocator + Copy, F: Files, R: Read + Drop, W: Write, E: Write>
     out: &mut W,
     err: &mut E,
 ) -> u8
-    ensures status { result ≤ 5 }
-    ensures answer { IfSome (R.remaining source)
-        (λ bytes. CertifiesReport claim.now (F.contents files.now (string_bytes claim.now.order))
-        (F.contents files.now (string_bytes claim.now.report)) bytes result (W.contents out.old) (W.contents out.new)) }
-    ensures written { IfSome (R.remaining source)
-        (λ bytes. WritesVerdict claim.now (F.contents files.now (string_bytes claim.now.order))
-        (F.contents files.now (string_bytes claim.now.report)) bytes (W.contents out.old) (W.contents out.new)) }
-    ensures refused { result ≡ 1 → IfSome (R.remaining source) (λ bytes. IsRefused bytes) }
-    ensures untouched { result ≡ 1 → W.contents out.new ≡ W.contents out.old }
+    ensures { ServesClaim claim.now (F.contents files.now (string_bytes claim.now.order))
+        (F.contents files.now (string_bytes claim.now.report)) (R.remaining source) result (W.contents out.old)
+        (W.contents out.new) }
 {
     match files.open(claim.order.as_str()) {
         Ok(order) => open_report(alloc, file, claim, source, order, files, detail, out, err),
@@ -87,15 +75,8 @@ fn open_report<A: Allocator + Copy, F: Files, R: Read + Drop, S: Read + Drop, W:
     out: &mut W,
     err: &mut E,
 ) -> u8
-    ensures status { result ≤ 5 }
-    ensures answer { IfSome (R.remaining source)
-        (λ bytes. CertifiesReport claim.now (S.remaining order)
-        (F.contents files.now (string_bytes claim.now.report)) bytes result (W.contents out.old) (W.contents out.new)) }
-    ensures written { IfSome (R.remaining source)
-        (λ bytes. WritesVerdict claim.now (S.remaining order)
-        (F.contents files.now (string_bytes claim.now.report)) bytes (W.contents out.old) (W.contents out.new)) }
-    ensures refused { result ≡ 1 → IfSome (R.remaining source) (λ bytes. IsRefused bytes) }
-    ensures untouched { result ≡ 1 → W.contents out.new ≡ W.contents out.old }
+    ensures { ServesClaim claim.now (S.remaining order) (F.contents files.now (string_bytes claim.now.report))
+        (R.remaining source) result (W.contents out.old) (W.contents out.new) }
 {
     match files.open(claim.report.as_str()) {
         Ok(report) => certify(alloc, file, claim, source, order, report, detail, out, err),
@@ -124,15 +105,8 @@ pub(crate) fn certify<
     out: &mut W,
     err: &mut E,
 ) -> u8
-    ensures status { result ≤ 5 }
-    ensures answer { IfSome (R.remaining source)
-        (λ bytes. CertifiesReport claim.now (S.remaining order) (Q.remaining report) bytes result (W.contents out.old)
-        (W.contents out.new)) }
-    ensures written { IfSome (R.remaining source)
-        (λ bytes. WritesVerdict claim.now (S.remaining order) (Q.remaining report) bytes (W.contents out.old)
-        (W.contents out.new)) }
-    ensures refused { result ≡ 1 → IfSome (R.remaining source) (λ bytes. IsRefused bytes) }
-    ensures untouched { result ≡ 1 → W.contents out.new ≡ W.contents out.old }
+    ensures { ServesClaim claim.now (S.remaining order) (Q.remaining report) (R.remaining source) result
+        (W.contents out.old) (W.contents out.new) }
 {
     match text_of(alloc, file, source, detail, err) {
         Ok(text) => certify_text(alloc, claim, text.as_str(), order, report, detail, out, err),
@@ -151,13 +125,8 @@ fn certify_text<A: Allocator + Copy, S: Read + Drop, Q: Read + Drop, W: Write, E
     out: &mut W,
     err: &mut E,
 ) -> u8
-    ensures status { result ≤ 5 }
-    ensures answer { CertifiesReport claim.now (S.remaining order) (Q.remaining report) text.now result
+    ensures { ServesClaim claim.now (S.remaining order) (Q.remaining report) (Some text.now) result
         (W.contents out.old) (W.contents out.new) }
-    ensures written { WritesVerdict claim.now (S.remaining order) (Q.remaining report) text.now (W.contents out.old)
-        (W.contents out.new) }
-    ensures refused { result ≡ 1 → IsRefused text.now }
-    ensures untouched { result ≡ 1 → W.contents out.new ≡ W.contents out.old }
 {
     match read_accepted(alloc, text) {
         Ok(accepted) => match order_of(alloc, claim.order.as_str(), order, detail, err) {

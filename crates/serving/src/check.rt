@@ -1,14 +1,15 @@
 //! `txc check`: whether a source is accepted.
 
-ghost use Rattle.std.specs.Prelude.{◌≡◌, ◌≤◌, codes, IfErr, OnOk};
+ghost use Rattle.std.specs.Prelude.{◌≡◌, codes, IfErr, OnOk};
 ghost use Rattle.serving.specs.Checks.{Accepts, SaysAccepted};
 ghost use Rattle.serving.specs.Refusals.{IsRefused, IsFaultOfSource};
-ghost use Rattle.serving.specs.Written.{WritesPart};
+ghost use Rattle.serving.specs.inner.Serves.{ServesText};
 
 use crate::further::{tell_faults, tell_warnings};
 use crate::print::print_text;
 use crate::program::{SourceFault, read_accepted};
 use crate::tell::{Detail, refuse};
+use command::CheckOptions;
 use separation::Accepted;
 use std::alloc::Allocator;
 use std::io::Write;
@@ -18,30 +19,26 @@ use std::io::Write;
 pub(crate) fn check<A: Allocator + Copy, W: Write, E: Write>(
     alloc: A,
     text: &str,
-    warns: bool,
-    all: bool,
+    told: CheckOptions,
     detail: Detail<'_>,
     out: &mut W,
     err: &mut E,
 ) -> u8
-    ensures status { result ≤ 4 }
-    ensures accepted { SaysAccepted text.now result (W.contents out.old) (W.contents out.new) }
-    ensures refused { result ≡ 1 → IsRefused text.now }
-    ensures written { WritesPart (λ written. Accepts text.now × (written ≡ codes "accepted\n")) (W.contents out.old)
+    ensures { ServesText (SaysAccepted text.now) (IsRefused text.now)
+        (λ written. Accepts text.now × (written ≡ codes "accepted\n")) result (W.contents out.old)
         (W.contents out.new) }
-    ensures untouched { result ≡ 1 → W.contents out.new ≡ W.contents out.old }
 {
     match check_source(alloc, text) {
         Ok(accepted) => {
             let status = print_text(b"accepted\n", out, err);
-            if warns || detail.further {
+            if told.warns || detail.further {
                 tell_warnings(alloc, text, &accepted, detail, err);
             }
             status
         }
         Err(fault) => {
             let status = refuse(alloc, text, fault, detail, err);
-            if all || detail.further {
+            if told.all || detail.further {
                 tell_faults(alloc, text, fault, detail, err);
             }
             status

@@ -1,8 +1,9 @@
 //! `txc outcomes` with `--refines` or `--expect`: outcomes that are compared with those of another program, or with a
 //! list.
 
-ghost use Rattle.std.specs.Prelude.{◌≡◌, ◌≤◌, IfSome};
-ghost use Rattle.serving.specs.Compared.{ComparesOutcomes, HaveNoCode, WritesComparison, name_of};
+ghost use Rattle.std.specs.Prelude.{◌≡◌, Some};
+ghost use Rattle.serving.specs.Compared.{name_of};
+ghost use Rattle.serving.specs.inner.Serves.{ServesComparison};
 
 use crate::expected::expect;
 use crate::files::{Files, text_of};
@@ -31,16 +32,8 @@ pub(crate) fn open_comparison<A: Allocator + Copy, F: Files, W: Write, E: Write>
     out: &mut W,
     err: &mut E,
 ) -> u8
-    ensures status { result ≤ 5 }
-    ensures answer { IfSome (F.contents files.now file.now)
-        (λ bytes. ComparesOutcomes comparison.now (F.contents files.now (name_of comparison.now.against)) bytes result
-        (W.contents out.old) (W.contents out.new)) }
-    ensures written { IfSome (F.contents files.now file.now)
-        (λ bytes. WritesComparison comparison.now (F.contents files.now (name_of comparison.now.against)) bytes
-        (W.contents out.old) (W.contents out.new)) }
-    ensures refused { result ≡ 1 → IfSome (F.contents files.now file.now)
-        (λ bytes. HaveNoCode comparison.now.against (F.contents files.now (name_of comparison.now.against)) bytes) }
-    ensures untouched { result ≡ 1 → W.contents out.new ≡ W.contents out.old }
+    ensures { ServesComparison comparison.now (F.contents files.now (name_of comparison.now.against))
+        (F.contents files.now file.now) result (W.contents out.old) (W.contents out.new) }
 {
     match files.open(file) {
         Ok(source) => open_other(alloc, file, comparison, source, files, detail, out, err),
@@ -59,16 +52,8 @@ fn open_other<A: Allocator + Copy, F: Files, R: Read + Drop, W: Write, E: Write>
     out: &mut W,
     err: &mut E,
 ) -> u8
-    ensures status { result ≤ 5 }
-    ensures answer { IfSome (R.remaining source)
-        (λ bytes. ComparesOutcomes comparison.now (F.contents files.now (name_of comparison.now.against)) bytes result
-        (W.contents out.old) (W.contents out.new)) }
-    ensures written { IfSome (R.remaining source)
-        (λ bytes. WritesComparison comparison.now (F.contents files.now (name_of comparison.now.against)) bytes
-        (W.contents out.old) (W.contents out.new)) }
-    ensures refused { result ≡ 1 → IfSome (R.remaining source)
-        (λ bytes. HaveNoCode comparison.now.against (F.contents files.now (name_of comparison.now.against)) bytes) }
-    ensures untouched { result ≡ 1 → W.contents out.new ≡ W.contents out.old }
+    ensures { ServesComparison comparison.now (F.contents files.now (name_of comparison.now.against))
+        (R.remaining source) result (W.contents out.old) (W.contents out.new) }
 {
     let name = name_of(&comparison.against);
     match files.open(name) {
@@ -89,16 +74,8 @@ pub(crate) fn compare<A: Allocator + Copy, R: Read + Drop, Q: Read + Drop, W: Wr
     out: &mut W,
     err: &mut E,
 ) -> u8
-    ensures status { result ≤ 5 }
-    ensures answer { IfSome (R.remaining source)
-        (λ bytes. ComparesOutcomes comparison.now (Q.remaining other) bytes result (W.contents out.old)
-        (W.contents out.new)) }
-    ensures written { IfSome (R.remaining source)
-        (λ bytes. WritesComparison comparison.now (Q.remaining other) bytes (W.contents out.old)
-        (W.contents out.new)) }
-    ensures refused { result ≡ 1 → IfSome (R.remaining source)
-        (λ bytes. HaveNoCode comparison.now.against (Q.remaining other) bytes) }
-    ensures untouched { result ≡ 1 → W.contents out.new ≡ W.contents out.old }
+    ensures { ServesComparison comparison.now (Q.remaining other) (R.remaining source) result (W.contents out.old)
+        (W.contents out.new) }
 {
     match text_of(alloc, file, source, detail, err) {
         Ok(text) => compare_text(alloc, comparison, text.as_str(), other, detail, out, err),
@@ -116,13 +93,8 @@ fn compare_text<A: Allocator + Copy, Q: Read + Drop, W: Write, E: Write>(
     out: &mut W,
     err: &mut E,
 ) -> u8
-    ensures status { result ≤ 5 }
-    ensures answer { ComparesOutcomes comparison.now (Q.remaining other) text.now result (W.contents out.old)
+    ensures { ServesComparison comparison.now (Q.remaining other) (Some text.now) result (W.contents out.old)
         (W.contents out.new) }
-    ensures written { WritesComparison comparison.now (Q.remaining other) text.now (W.contents out.old)
-        (W.contents out.new) }
-    ensures refused { result ≡ 1 → HaveNoCode comparison.now.against (Q.remaining other) text.now }
-    ensures untouched { result ≡ 1 → W.contents out.new ≡ W.contents out.old }
 {
     let limits = Limits {
         threads: comparison.threads,

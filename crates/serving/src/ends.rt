@@ -6,7 +6,7 @@ use lex::place;
 use lex::token::{Scalar, Span};
 use machine::PlaceShown;
 use meaning::{HaltPlace, ThreadReport, TrapCause};
-use report::{End, ThreadShown};
+use report::{End, ThreadSeen, ThreadShown};
 use std::alloc::Allocator;
 use std::io::Write;
 use syntax::number::number;
@@ -93,12 +93,30 @@ pub(crate) fn all_stood_in_code<A: Allocator + Copy>(
     all
 }
 
+/// A thread of which a report tells how it is found.
+pub(crate) trait HasEnd {
+    /// How the thread is found.
+    fn end(&self) -> End;
+}
+
+impl<A: Allocator> HasEnd for ThreadShown<A> {
+    fn end(&self) -> End {
+        self.end
+    }
+}
+
+impl HasEnd for ThreadSeen<'_> {
+    fn end(&self) -> End {
+        self.end
+    }
+}
+
 /// Tells where each thread stands that trapped or goes no further, where lines are wanted, with the line of the source:
 /// once, where several stand at one place.
-pub(crate) fn tell_ends<A: Allocator + Copy, E: Write>(
+pub(crate) fn tell_ends<A: Allocator + Copy, T: HasEnd, E: Write>(
     alloc: A,
     text: &str,
-    threads: &[ThreadShown<A>],
+    threads: &[T],
     stood: &[Stood],
     detail: Detail<'_>,
     err: &mut E,
@@ -111,10 +129,10 @@ pub(crate) fn tell_ends<A: Allocator + Copy, E: Write>(
 
 /// Tells where each thread stands that trapped or goes no further, with the line of the source where that was not shown
 /// yet.
-pub(crate) fn tell_threads<A: Allocator + Copy, E: Write>(
+pub(crate) fn tell_threads<A: Allocator + Copy, T: HasEnd, E: Write>(
     alloc: A,
     text: &str,
-    threads: &[ThreadShown<A>],
+    threads: &[T],
     stood: &[Stood],
     shown: &mut Vec<Span, A>,
     err: &mut E,
@@ -123,7 +141,7 @@ pub(crate) fn tell_threads<A: Allocator + Copy, E: Write>(
         let Some(one) = stood.get(number) else {
             return;
         };
-        if tell_end(text, number, threads[number].end, *one, err) {
+        if tell_end(text, number, threads[number].end(), *one, err) {
             show_new(alloc, text, one.at, shown, err);
         }
     }

@@ -7,6 +7,7 @@ ghost use Rattle.serving.specs.Limits.{HasNoCode};
 ghost use Rattle.serving.specs.Outcomes.{IsListOfOutcomes};
 ghost use Rattle.serving.specs.Written.{WritesPart};
 ghost use Rattle.serving.specs.inner.Compared.{list_of};
+ghost use Rattle.serving.specs.inner.Serves.{ServesEither};
 
 use crate::all_outcomes::list_outcomes;
 use crate::certify::read_all;
@@ -32,17 +33,9 @@ pub(crate) fn expect<A: Allocator + Copy, Q: Read + Drop, W: Write, E: Write>(
     out: &mut W,
     err: &mut E,
 ) -> u8
-    ensures status { result ≤ 5 }
-    ensures answer { IfSome (Q.remaining expected)
-        (λ bytes. Tells (SaysExpected (IsListOfOutcomes limits.threads text.now) bytes)
-        (ShowsUnexpected (IsListOfOutcomes limits.threads text.now) bytes) result (W.contents out.old)
-        (W.contents out.new)) }
-    ensures written { IfSome (Q.remaining expected)
-        (λ bytes. WritesPart (IsEither (SaysExpected (IsListOfOutcomes limits.threads text.now) bytes)
-        (ShowsUnexpected (IsListOfOutcomes limits.threads text.now) bytes)) (W.contents out.old)
-        (W.contents out.new)) }
-    ensures refused { result ≡ 1 → HasNoCode text.now }
-    ensures untouched { result ≡ 1 → W.contents out.new ≡ W.contents out.old }
+    ensures { ServesEither (SaysExpected (IsListOfOutcomes limits.threads text.now))
+        (ShowsUnexpected (IsListOfOutcomes limits.threads text.now)) (HasNoCode text.now) (Q.remaining expected)
+        result (W.contents out.old) (W.contents out.new) }
 {
     match list_outcomes(
         alloc,

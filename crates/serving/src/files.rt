@@ -2,16 +2,15 @@
 
 ghost use Rattle.std.specs.Prelude.{◌≡◌, ◌≤◌, ℕ, IfOk, IfSome, List, Option, option_map, ◌⊎◌, IfErr, string_bytes};
 ghost use Rattle.std.specs.Prelude.{take, OnOk};
-ghost use Rattle.serving.specs.Answers.{Answers, most_status};
+ghost use Rattle.serving.specs.Answers.{most_status};
 ghost use Rattle.serving.specs.Files.{AnswersFiles, RefusesSource, WritesForFiles, schedule_in, schedule_of};
-ghost use Rattle.serving.specs.Refused.{IsRefusedFor};
-ghost use Rattle.serving.specs.Written.{IsAskedFor, WritesPart};
 ghost use Rattle.serving.specs.Refusals.{IsRefused};
 ghost use Rattle.serving.specs.Sources.{IsTextOf};
 ghost use Rattle.replay.specs.declared.line.TheConstants.{MOST_STEPS};
 ghost use Rattle.replay.specs.Schedules.{counts};
 ghost use Rattle.replay.specs.Turns.{AreLinesOfOrder};
 ghost use Rattle.serving.specs.Replays.{AreLinesOf, IsSchedule, lines_of_seed};
+ghost use Rattle.serving.specs.inner.Serves.{ServesTask};
 
 use crate::ask::open_asked;
 use crate::certify::open_claim;
@@ -144,15 +143,8 @@ fn open_source<H: Threads + Wait + Sync, F: Files, W: Write, E: Write + Send>(
     out: &mut W,
     err: &mut E,
 ) -> u8
-    ensures status { result ≤ 4 }
-    ensures answer { IfSome (F.contents files.now file.now)
-        (λ bytes. Answers task.now (schedule_in (F.contents files.now) (schedule_of task.now)) bytes result
-        (W.contents out.old) (W.contents out.new)) }
-    ensures written { IfSome (F.contents files.now file.now)
-        (λ bytes. WritesPart (IsAskedFor task.now (schedule_in (F.contents files.now) (schedule_of task.now)) bytes)
-        (W.contents out.old) (W.contents out.new)) }
-    ensures refused { result ≡ 1 → IfSome (F.contents files.now file.now) (λ bytes. IsRefusedFor task.now bytes) }
-    ensures untouched { result ≡ 1 → W.contents out.new ≡ W.contents out.old }
+    ensures { ServesTask task.now (schedule_in (F.contents files.now) (schedule_of task.now))
+        (F.contents files.now file.now) result (W.contents out.old) (W.contents out.new) }
 {
     match files.open(file) {
         Ok(source) => open_schedule(rt, alloc, file, task, source, files, detail, out, err),
@@ -172,15 +164,8 @@ fn open_schedule<H: Threads + Wait + Sync, F: Files, R: Read + Drop, W: Write, E
     out: &mut W,
     err: &mut E,
 ) -> u8
-    ensures status { result ≤ 4 }
-    ensures answer { IfSome (R.remaining source)
-        (λ bytes. Answers task.now (schedule_in (F.contents files.now) (schedule_of task.now)) bytes result
-        (W.contents out.old) (W.contents out.new)) }
-    ensures written { IfSome (R.remaining source)
-        (λ bytes. WritesPart (IsAskedFor task.now (schedule_in (F.contents files.now) (schedule_of task.now)) bytes)
-        (W.contents out.old) (W.contents out.new)) }
-    ensures refused { result ≡ 1 → IfSome (R.remaining source) (λ bytes. IsRefusedFor task.now bytes) }
-    ensures untouched { result ≡ 1 → W.contents out.new ≡ W.contents out.old }
+    ensures { ServesTask task.now (schedule_in (F.contents files.now) (schedule_of task.now))
+        (R.remaining source) result (W.contents out.old) (W.contents out.new) }
 {
     match schedule_of(task) {
         Some(name) => match files.open(name) {

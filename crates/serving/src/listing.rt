@@ -1,9 +1,9 @@
 //! `txc listing`: the code of a source.
 
-ghost use Rattle.std.specs.Prelude.{◌≡◌, ◌≤◌, IfOk, IfErr, string_bytes};
+ghost use Rattle.std.specs.Prelude.{IfOk, IfErr, string_bytes};
 ghost use Rattle.serving.specs.Listings.{ShowsListing, PrintsListing};
 ghost use Rattle.serving.specs.Limits.{HasNoCode, IsFaultOfText};
-ghost use Rattle.serving.specs.Written.{WritesPart};
+ghost use Rattle.serving.specs.inner.Serves.{ServesText};
 
 use crate::print::print_text;
 use crate::program::{SourceFault, compile};
@@ -20,11 +20,8 @@ pub(crate) fn list<A: Allocator + Copy, W: Write, E: Write>(
     out: &mut W,
     err: &mut E,
 ) -> u8
-    ensures status { result ≤ 4 }
-    ensures listing { PrintsListing text.now result (W.contents out.old) (W.contents out.new) }
-    ensures refused { result ≡ 1 → HasNoCode text.now }
-    ensures written { WritesPart (ShowsListing text.now) (W.contents out.old) (W.contents out.new) }
-    ensures untouched { result ≡ 1 → W.contents out.new ≡ W.contents out.old }
+    ensures { ServesText (PrintsListing text.now) (HasNoCode text.now) (ShowsListing text.now) result
+        (W.contents out.old) (W.contents out.new) }
 {
     match list_source(alloc, text) {
         Ok(listed) => print_text(listed.as_str().as_bytes(), out, err),

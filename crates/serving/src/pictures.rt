@@ -7,6 +7,7 @@ ghost use Rattle.picture.specs.Replayed.{IsDrawn};
 ghost use Rattle.serving.specs.Pictures.{PrintsPicture, ReplaysDrawn};
 ghost use Rattle.serving.specs.Limits.{HasNoCode};
 ghost use Rattle.serving.specs.Written.{IsReplayPicture, WritesPart};
+ghost use Rattle.serving.specs.inner.Serves.{ServesText};
 
 use crate::program::{Compiled, unit_of};
 use crate::replays::{Replayed, print_for_replay, replay_text};
@@ -30,14 +31,10 @@ pub(crate) fn draw<A: Allocator + Copy, S: Read + Drop, W: Write, E: Write>(
     out: &mut W,
     err: &mut E,
 ) -> u8
-    ensures status { result ≤ 4 }
-    ensures picture { PrintsPicture
-        (λ svg shown. ReplaysDrawn threads from steps.now (S.remaining schedule) text.now svg shown) result
+    ensures { ServesText
+        (PrintsPicture (λ svg shown. ReplaysDrawn threads from steps.now (S.remaining schedule) text.now svg shown))
+        (HasNoCode text.now) (IsReplayPicture threads from steps.now (S.remaining schedule) text.now) result
         (W.contents out.old) (W.contents out.new) }
-    ensures refused { result ≡ 1 → HasNoCode text.now }
-    ensures written { WritesPart (IsReplayPicture threads from steps.now (S.remaining schedule) text.now)
-        (W.contents out.old) (W.contents out.new) }
-    ensures untouched { result ≡ 1 → W.contents out.new ≡ W.contents out.old }
 {
     match replay_text(alloc, text, threads, steps, schedule, detail, err) {
         Ok((compiled, replayed)) => {

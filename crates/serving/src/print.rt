@@ -1,17 +1,18 @@
 //! Printing on standard output, and the exit statuses.
 
-ghost use Rattle.std.specs.Prelude.{◌≡◌, OnOk, ◌≢◌, ◌≤◌, ◌⊎◌};
+ghost use Rattle.std.specs.Prelude.{◌≡◌, OnOk, ◌≢◌, ◌≤◌, ◌⊎◌, if◌then◌else◌, map};
 ghost use Rattle.std.specs.List.{list_any};
-ghost use Rattle.report.specs.Views.{printed_of};
+ghost use Rattle.report.specs.Pieces.{seen_of};
+ghost use Rattle.report.specs.Views.{printed_of, shown_of};
 ghost use Rattle.serving.specs.Reports.{exit_status, is_spent, is_stopped, is_trapped};
 ghost use Rattle.std.specs.Io.KnownBytes.{Appends};
 ghost use Rattle.serving.specs.Written.{AppendsBeginning, WritesPart};
 ghost use Rattle.report.specs.Pieces.{joined};
 ghost use Rattle.report.specs.Report.{report_text};
-ghost use Rattle.serving.specs.inner.Printing.{PrintsShown};
+ghost use Rattle.serving.specs.inner.Printing.{PrintsShown, plain_report};
 
 use crate::tell::{cannot_write, out_of_memory};
-use report::{End, Piece, Printed, ThreadShown, pieces_of};
+use report::{End, Piece, Printed, Shown, ThreadSeen, ThreadShown, pieces_of, report_pieces};
 use std::alloc::Allocator;
 use std::io;
 use std::io::{ErrorKind, Write};
@@ -76,17 +77,40 @@ pub(crate) fn has_trapped<A: Allocator>(threads: &[ThreadShown<A>]) -> bool
     threads.iter().any(|thread| is_trapped(thread.end))
 }
 
-/// The exit status where a report was printed: by the ends of its threads.
-pub(crate) fn status_of<A: Allocator>(printed: &Printed<A>) -> u8
-    ensures { result ≡ exit_status (printed_of printed.now) }
+/// The exit status where a report was printed: by whether some thread has neither ended nor trapped, and whether some has
+/// trapped.
+fn status_by(stopped: bool, trapped: bool) -> u8
+    ensures { result ≡ (if stopped then 4 else if trapped then 3 else 0) }
 {
-    if has_stopped(printed.threads.as_slice()) {
+    if stopped {
         STOPPED
-    } else if has_trapped(printed.threads.as_slice()) {
+    } else if trapped {
         TRAPPED
     } else {
         ENDED
     }
+}
+
+/// The exit status where a report was printed: by the ends of its threads.
+pub(crate) fn status_of<A: Allocator>(printed: &Printed<A>) -> u8
+    ensures { result ≡ exit_status (printed_of printed.now) }
+{
+    let threads = printed.threads.as_slice();
+    status_by(has_stopped(threads), has_trapped(threads))
+}
+
+/// Whether some thread whose text lies elsewhere has neither ended nor trapped.
+fn some_seen_stopped(threads: &[ThreadSeen<'_>]) -> bool
+    ensures { result ≡ list_any (λ t. is_stopped t.end) threads.now }
+{
+    threads.iter().any(|thread| is_stopped(thread.end))
+}
+
+/// Whether some thread whose text lies elsewhere has trapped.
+fn some_seen_trapped(threads: &[ThreadSeen<'_>]) -> bool
+    ensures { result ≡ list_any (λ t. is_trapped t.end) threads.now }
+{
+    threads.iter().any(|thread| is_trapped(thread.end))
 }
 
 /// Writes a text, as `write_all` does. Where that fails a beginning of it is written.
@@ -169,6 +193,33 @@ pub(crate) fn print_report<A: Allocator + Copy, W: Write, E: Write>(
     match pieces_of(alloc, printed) {
         Ok(pieces) => match print_pieces(pieces.as_slice(), out) {
             Ok(()) => status_of(printed),
+            Err(_) => cannot_write(err),
+        },
+        Err(_) => out_of_memory(err),
+    }
+}
+
+/// Prints a report of no events, of threads whose texts lie elsewhere, each text from there, and gives the exit status by
+/// their ends.
+pub(crate) fn print_seen<A: Allocator + Copy, W: Write, E: Write>(
+    alloc: A,
+    threads: &[ThreadSeen<'_>],
+    globals: &[Shown<A>],
+    holder: Option<u32>,
+    out: &mut W,
+    err: &mut E,
+) -> u8
+    ensures status { result ≤ 4 }
+    ensures report { PrintsShown (plain_report (map seen_of threads.now) (map shown_of globals.now) holder) result
+        (W.contents out.old) (W.contents out.new) }
+    ensures written { WritesPart (λ written. written
+        ≡ report_text (plain_report (map seen_of threads.now) (map shown_of globals.now) holder)) (W.contents out.old)
+        (W.contents out.new) }
+    ensures not_refused { result ≢ 1 }
+{
+    match report_pieces(alloc, &None, threads, globals, holder) {
+        Ok(pieces) => match print_pieces(pieces.as_slice(), out) {
+            Ok(()) => status_by(some_seen_stopped(threads), some_seen_trapped(threads)),
             Err(_) => cannot_write(err),
         },
         Err(_) => out_of_memory(err),

@@ -1,6 +1,6 @@
 //! Whether each outcome of one program is one of another's.
 
-ghost use Rattle.std.specs.Prelude.{◌≡◌, ◌≢◌, ◌≤◌, ◌⊎◌, [], IfErr, IfOk, IfSome, is_some, length, map, true};
+ghost use Rattle.std.specs.Prelude.{◌≡◌, ◌≢◌, ◌≤◌, ◌⊎◌, [], IfErr, IfOk, IfSome, is_some, length, map, true, Some};
 ghost use Rattle.std.specs.Io.KnownBytes.{Appends};
 ghost use Rattle.syntax.specs.Views.{program_of};
 ghost use Rattle.refinements.specs.Told as spec;
@@ -14,6 +14,7 @@ ghost use Rattle.serving.specs.Refusals.{span_of_source};
 ghost use Rattle.serving.specs.Refines.{SaysRefined, SaysRefines, ShowsBeyond, ShowsOther};
 ghost use Rattle.serving.specs.Written.{WritesPart};
 ghost use Rattle.serving.specs.inner.Compared.{SaysShown, ShowsUnshown};
+ghost use Rattle.serving.specs.inner.Serves.{ServesEither};
 
 use crate::compared::Limits;
 use crate::files::text_of;
@@ -40,15 +41,10 @@ pub(crate) fn refine<A: Allocator + Copy, Q: Read + Drop, W: Write, E: Write>(
     out: &mut W,
     err: &mut E,
 ) -> u8
-    ensures status { result ≤ 5 }
-    ensures answer { IfSome (Q.remaining other)
-        (λ bytes. Tells (SaysRefined name.now limits.threads text.now bytes)
-        (ShowsOther name.now limits.threads text.now bytes) result (W.contents out.old) (W.contents out.new)) }
-    ensures written { IfSome (Q.remaining other)
-        (λ bytes. WritesPart (IsEither (SaysRefined name.now limits.threads text.now bytes)
-        (ShowsOther name.now limits.threads text.now bytes)) (W.contents out.old) (W.contents out.new)) }
-    ensures refused { result ≡ 1 → HasNoCode text.now ⊎ IfSome (Q.remaining other) (λ bytes. HasNoCode bytes) }
-    ensures untouched { result ≡ 1 → W.contents out.new ≡ W.contents out.old }
+    ensures { ServesEither (SaysRefined name.now limits.threads text.now)
+        (ShowsOther name.now limits.threads text.now)
+        (HasNoCode text.now ⊎ IfSome (Q.remaining other) (λ bytes. HasNoCode bytes)) (Q.remaining other) result
+        (W.contents out.old) (W.contents out.new) }
 {
     match text_of(alloc, name, other, detail.of_file(name), err) {
         Ok(other) => refine_text(alloc, limits, text, name, other.as_str(), detail, out, err),
@@ -67,13 +63,9 @@ fn refine_text<A: Allocator + Copy, W: Write, E: Write>(
     out: &mut W,
     err: &mut E,
 ) -> u8
-    ensures status { result ≤ 5 }
-    ensures answer { Tells (SaysRefined name.now limits.threads text.now other.now)
-        (ShowsOther name.now limits.threads text.now other.now) result (W.contents out.old) (W.contents out.new) }
-    ensures written { WritesPart (IsEither (SaysRefined name.now limits.threads text.now other.now)
-        (ShowsOther name.now limits.threads text.now other.now)) (W.contents out.old) (W.contents out.new) }
-    ensures refused { result ≡ 1 → HasNoCode text.now ⊎ HasNoCode other.now }
-    ensures untouched { result ≡ 1 → W.contents out.new ≡ W.contents out.old }
+    ensures { ServesEither (SaysRefined name.now limits.threads text.now)
+        (ShowsOther name.now limits.threads text.now) (HasNoCode text.now ⊎ HasNoCode other.now) (Some other.now)
+        result (W.contents out.old) (W.contents out.new) }
 {
     match compile(alloc, text) {
         Ok(this) => match compile(alloc, other) {

@@ -21,6 +21,7 @@ ghost use Rattle.world.specs.Reports.{threads_of};
 ghost use Rattle.serving.specs.Codes.{IsCodeOf};
 ghost use Rattle.serving.specs.Replays as spec;
 ghost use Rattle.serving.specs.inner.Replayed.{report_shown};
+ghost use Rattle.serving.specs.inner.Serves.{ServesText};
 
 use crate::ends::{Stood, all_stood_in_code, tell_ends};
 use crate::files::{lines_in_order, lines_of, lines_picked};
@@ -50,14 +51,11 @@ pub(crate) fn replay_source<A: Allocator + Copy, S: Read + Drop, W: Write, E: Wr
     out: &mut W,
     err: &mut E,
 ) -> u8
-    ensures status { result ≤ 4 }
-    ensures report { PrintsReport (λ shown. RunsInSomeOrder threads text.now (behind_events shown) × Accepts text.now
-        × Replays threads steps.now (S.remaining schedule) text.now shown) result (W.contents out.old)
+    ensures { ServesText
+        (PrintsReport (λ shown. RunsInSomeOrder threads text.now (behind_events shown) × Accepts text.now
+        × Replays threads steps.now (S.remaining schedule) text.now shown)) (HasNoCode text.now)
+        (IsReplayReport threads steps.now (S.remaining schedule) text.now) result (W.contents out.old)
         (W.contents out.new) }
-    ensures refused { result ≡ 1 → HasNoCode text.now }
-    ensures written { WritesPart (IsReplayReport threads steps.now (S.remaining schedule) text.now) (W.contents out.old)
-        (W.contents out.new) }
-    ensures untouched { result ≡ 1 → W.contents out.new ≡ W.contents out.old }
 {
     reports_are_orders();
     match replay_text(alloc, text, threads, steps, schedule, detail, err) {
@@ -93,14 +91,11 @@ pub(crate) fn show_steps<A: Allocator + Copy, S: Read + Drop, W: Write, E: Write
     out: &mut W,
     err: &mut E,
 ) -> u8
-    ensures status { result ≤ 4 }
-    ensures timeline { PrintsTimeline (λ lines shown. RunsInSomeOrder threads text.now (behind_events shown)
-        × Accepts text.now × ReplaysShown threads steps.now (S.remaining schedule) text.now lines shown) result
-        (W.contents out.old) (W.contents out.new) }
-    ensures refused { result ≡ 1 → HasNoCode text.now }
-    ensures written { WritesPart (IsReplayTimeline threads steps.now (S.remaining schedule) text.now)
-        (W.contents out.old) (W.contents out.new) }
-    ensures untouched { result ≡ 1 → W.contents out.new ≡ W.contents out.old }
+    ensures { ServesText
+        (PrintsTimeline (λ lines shown. RunsInSomeOrder threads text.now (behind_events shown) × Accepts text.now
+        × ReplaysShown threads steps.now (S.remaining schedule) text.now lines shown)) (HasNoCode text.now)
+        (IsReplayTimeline threads steps.now (S.remaining schedule) text.now) result (W.contents out.old)
+        (W.contents out.new) }
 {
     reports_are_orders();
     match replay_text(alloc, text, threads, steps, schedule, detail, err) {
@@ -167,13 +162,8 @@ pub(crate) fn print_schedule<A: Allocator + Copy, W: Write, E: Write>(
     out: &mut W,
     err: &mut E,
 ) -> u8
-    ensures status { result ≤ 4 }
-    ensures schedule { PrintsSchedule (lines_of_seed seed threads count) text.now result (W.contents out.old)
-        (W.contents out.new) }
-    ensures refused { result ≡ 1 → HasNoCode text.now }
-    ensures written { WritesPart (IsSeedSchedule seed threads count text.now) (W.contents out.old)
-        (W.contents out.new) }
-    ensures untouched { result ≡ 1 → W.contents out.new ≡ W.contents out.old }
+    ensures { ServesText (PrintsSchedule (lines_of_seed seed threads count) text.now) (HasNoCode text.now)
+        (IsSeedSchedule seed threads count text.now) result (W.contents out.old) (W.contents out.new) }
 {
     match compile(alloc, text) {
         Ok(_compiled) => match lines_picked(alloc, seed, threads, count, detail, err) {
@@ -197,12 +187,8 @@ pub(crate) fn print_order<A: Allocator + Copy, W: Write, E: Write>(
     out: &mut W,
     err: &mut E,
 ) -> u8
-    ensures status { result ≤ 4 }
-    ensures schedule { PrintsOrder threads order.now text.now result (W.contents out.old) (W.contents out.new) }
-    ensures refused { result ≡ 1 → HasNoCode text.now }
-    ensures written { WritesPart (IsOrderSchedule threads order.now text.now) (W.contents out.old)
-        (W.contents out.new) }
-    ensures untouched { result ≡ 1 → W.contents out.new ≡ W.contents out.old }
+    ensures { ServesText (PrintsOrder threads order.now text.now) (HasNoCode text.now)
+        (IsOrderSchedule threads order.now text.now) result (W.contents out.old) (W.contents out.new) }
 {
     match compile(alloc, text) {
         Ok(compiled) => match lines_in_order(alloc, &compiled.code, threads, order, detail, err) {

@@ -1,9 +1,10 @@
 //! Answers a request over readers and writers.
 
-ghost use Rattle.std.specs.Prelude.{◌≡◌, ◌≤◌, ◌⊎◌, IfSome};
+ghost use Rattle.std.specs.Prelude.{◌≡◌, ◌≤◌, ◌⊎◌, IfSome, Some};
 ghost use Rattle.serving.specs.Answers.{Answers};
 ghost use Rattle.serving.specs.Refused.{IsRefusedFor};
 ghost use Rattle.serving.specs.Written.{IsAskedFor, WritesPart};
+ghost use Rattle.serving.specs.inner.Serves.{ServesTask};
 
 use crate::all_outcomes::all_outcomes;
 use crate::check::check;
@@ -46,14 +47,8 @@ pub(crate) fn serve_program<
     out: &mut W,
     err: &mut E,
 ) -> u8
-    ensures status { result ≤ 4 }
-    ensures answer { IfSome (R.remaining source)
-        (λ bytes. Answers task.now (S.remaining schedule) bytes result (W.contents out.old) (W.contents out.new)) }
-    ensures refused { result ≡ 1 → IfSome (R.remaining source) (λ bytes. IsRefusedFor task.now bytes) }
-    ensures written { IfSome (R.remaining source)
-        (λ bytes. WritesPart (IsAskedFor task.now (S.remaining schedule) bytes) (W.contents out.old)
-        (W.contents out.new)) }
-    ensures untouched { result ≡ 1 → W.contents out.new ≡ W.contents out.old }
+    ensures { ServesTask task.now (S.remaining schedule) (R.remaining source) result (W.contents out.old)
+        (W.contents out.new) }
 {
     match text_of(alloc, file, source, detail, err) {
         Ok(text) => work(
@@ -110,12 +105,8 @@ fn work<H: Threads + Wait + Sync, S: Read + Drop, W: Write, E: Write + Send>(
     out: &mut W,
     err: &mut E,
 ) -> u8
-    ensures status { result ≤ 4 }
-    ensures answer { Answers task.now (S.remaining schedule) text.now result (W.contents out.old) (W.contents out.new) }
-    ensures refused { result ≡ 1 → IsRefusedFor task.now text.now }
-    ensures written { WritesPart (IsAskedFor task.now (S.remaining schedule) text.now) (W.contents out.old)
+    ensures { ServesTask task.now (S.remaining schedule) (Some text.now) result (W.contents out.old)
         (W.contents out.new) }
-    ensures untouched { result ≡ 1 → W.contents out.new ≡ W.contents out.old }
 {
     match task {
         Task::Run {
@@ -150,15 +141,11 @@ fn work_alone<A: Allocator + Copy, S: Read + Drop, W: Write, E: Write>(
     out: &mut W,
     err: &mut E,
 ) -> u8
-    ensures status { result ≤ 4 }
-    ensures answer { Answers task.now (S.remaining schedule) text.now result (W.contents out.old) (W.contents out.new) }
-    ensures refused { result ≡ 1 → IsRefusedFor task.now text.now }
-    ensures written { WritesPart (IsAskedFor task.now (S.remaining schedule) text.now) (W.contents out.old)
+    ensures { ServesTask task.now (S.remaining schedule) (Some text.now) result (W.contents out.old)
         (W.contents out.new) }
-    ensures untouched { result ≡ 1 → W.contents out.new ≡ W.contents out.old }
 {
     match task {
-        Task::Check { warns, all } => check(alloc, text, *warns, *all, detail, out, err),
+        Task::Check(told) => check(alloc, text, *told, detail, out, err),
         Task::Listing => list(alloc, text, detail, out, err),
         Task::Run { .. } => refuse_run(RunFault::NotStarted, detail, err),
         Task::Replay { threads, steps } => replay_source(

@@ -1,18 +1,22 @@
 //! `txc run`: all threads of a source at once.
 
-ghost use Rattle.std.specs.Prelude.{◌≡◌, ◌≤◌, IfOk, IfErr, ◌==◌, map, option_map};
+ghost use Rattle.std.specs.Prelude.{◌≡◌, ◌≢◌, ◌≤◌, IfOk, IfErr, ◌==◌, map, option_map};
 ghost use Rattle.serving.specs.Checks.{Accepts};
 ghost use Rattle.serving.specs.Orders.{RunsInSomeOrder};
 ghost use Rattle.serving.specs.Limits.{HasNoCode};
 ghost use Rattle.serving.specs.Reports.{PrintsReport};
-ghost use Rattle.serving.specs.Runs.{RunsConcurrently, IsConcurrentRun, run_shown, globals_left, held_by, stopped_of};
+ghost use Rattle.serving.specs.Runs.{RunsConcurrently, IsConcurrentRun, globals_left, held_by, stopped_of};
 ghost use Rattle.serving.specs.Runs.{threads_of_run};
 ghost use Rattle.serving.specs.Written.{IsReportOf, WritesPart};
 ghost use Rattle.syntax.specs.Views.{program_of};
-ghost use Rattle.report.specs.Views.{printed_of, shown_of, thread_of};
+ghost use Rattle.report.specs.Pieces.{seen_of};
+ghost use Rattle.report.specs.Report.{report_text};
+ghost use Rattle.report.specs.Views.{shown_of};
 ghost use Rattle.workers.specs.Driving.{IsRunRefused};
 ghost use Rattle.serving.specs.Codes.{IsCodeOf};
-ghost use Rattle.serving.specs.inner.Threads.{IsThreadsFault};
+ghost use Rattle.serving.specs.inner.Printing.{PrintsShown};
+ghost use Rattle.serving.specs.inner.Serves.{ServesText};
+ghost use Rattle.serving.specs.inner.Threads.{IsThreadsFault, left_shown};
 ghost use Rattle.std.specs.List.{find};
 ghost use Rattle.std.specs.Option.{option_and_then};
 ghost use Rattle.serving.specs.Runs as spec;
@@ -20,14 +24,14 @@ ghost use Rattle.serving.specs.Runs as spec;
 use crate::ends::{Stood, stood_in_code, stood_somewhere, tell_ends};
 use crate::globals::globals_shown;
 use crate::laws::reports_are_orders;
-use crate::print::print_report;
+use crate::print::print_seen;
 use crate::program::{Compiled, SourceFault, compile, unit_of};
 use crate::run_line::RunWatch;
-use crate::tell::{Detail, refuse, refuse_run, tell_counts};
+use crate::tell::{Detail, out_of_memory, refuse, refuse_run, tell_counts};
 use bytecode::Code;
 use containers::Items;
 use norec_core::Stop;
-use report::{End, Printed, Shown, ThreadShown};
+use report::{End, Shown, ThreadSeen};
 use std::alloc::{AllocError, Global};
 use std::io::Write;
 use std::sync::Wait;
@@ -51,26 +55,17 @@ pub(crate) fn run<H: Threads + Wait + Sync, W: Write, E: Write + Send>(
     out: &mut W,
     err: &mut E,
 ) -> u8
-    ensures status { result ≤ 4 }
-    ensures report { PrintsReport (λ shown. RunsInSomeOrder threads text.now shown × Accepts text.now
-        × RunsConcurrently threads budget text.now shown) result (W.contents out.old) (W.contents out.new) }
-    ensures refused { result ≡ 1 → HasNoCode text.now }
-    ensures written { WritesPart (IsReportOf (RunsConcurrently threads budget text.now)) (W.contents out.old)
-        (W.contents out.new) }
-    ensures untouched { result ≡ 1 → W.contents out.new ≡ W.contents out.old }
+    ensures { ServesText
+        (PrintsReport (λ shown. RunsInSomeOrder threads text.now shown × Accepts text.now
+        × RunsConcurrently threads budget text.now shown)) (HasNoCode text.now)
+        (IsReportOf (RunsConcurrently threads budget text.now)) result (W.contents out.old) (W.contents out.new) }
 {
     reports_are_orders();
     let watch = RunWatch::new(err, detail.progress, budget, memory, threads);
     let ran = run_threads(rt, alloc, text, threads, budget, &watch);
     watch.clear();
     match ran {
-        Ok((printed, beside)) => {
-            let status = print_report(alloc, &printed, out, err);
-            let found = printed.threads.as_slice();
-            tell_ends(alloc, text, found, beside.stood.as_slice(), detail, err);
-            tell_counts(counts, threads, beside.finished.as_slice(), err);
-            status
-        }
+        Ok(left) => print_left(alloc, text, threads, counts, &left, detail, out, err),
         Err(ThreadsFault::Source(fault)) => refuse(alloc, text, fault, detail, err),
         Err(ThreadsFault::Run(fault)) => refuse_run(fault, detail, err),
     }
@@ -85,16 +80,54 @@ pub(crate) enum ThreadsFault {
     Run(RunFault),
 }
 
-/// What is told beside the report of a run: the threads, and where each of them stands in the source, by its number, as
-/// far as memory is had for it.
+/// What a run leaves: the threads and the words, what is shown of the globals, and where each thread stands in the source,
+/// by its number, as far as memory is had for it.
 #[derive(Drop)]
-struct Beside {
-    finished: Vec<Finished>,
+struct RunLeft {
+    ran: RunReport,
+    globals: Items<Shown, Global>,
     stood: Vec<Stood>,
 }
 
-/// Runs all threads of a source's text at once, each with so many steps at most: what their report shows, and the
-/// threads.
+/// Prints the report of a run of so many threads, each one's text from where the thread has it. Tells where threads stand
+/// that did not end and what was counted, where that is wanted.
+fn print_left<W: Write, E: Write>(
+    alloc: Global,
+    text: &str,
+    threads: u32,
+    counts: bool,
+    left: &RunLeft,
+    detail: Detail<'_>,
+    out: &mut W,
+    err: &mut E,
+) -> u8
+    ensures status { result ≤ 4 }
+    ensures report { PrintsShown (left_shown threads left.now) result (W.contents out.old) (W.contents out.new) }
+    ensures written { WritesPart (λ written. written ≡ report_text (left_shown threads left.now)) (W.contents out.old)
+        (W.contents out.new) }
+    ensures not_refused { result ≢ 1 }
+{
+    match threads_seen(alloc, threads, &left.ran) {
+        Ok(seen) => {
+            let holder = holder_of(&left.ran.memory);
+            let globals = left.globals.as_slice();
+            let status = print_seen(alloc, seen.as_slice(), globals, holder, out, err);
+            tell_ends(
+                alloc,
+                text,
+                seen.as_slice(),
+                left.stood.as_slice(),
+                detail,
+                err,
+            );
+            tell_counts(counts, threads, left.ran.threads.as_slice(), err);
+            status
+        }
+        Err(_) => out_of_memory(err),
+    }
+}
+
+/// Runs all threads of a source's text at once, each with so many steps at most: what they leave.
 fn run_threads<H: Threads + Wait + Sync, G: Gate + Sync>(
     rt: &H,
     alloc: Global,
@@ -102,13 +135,13 @@ fn run_threads<H: Threads + Wait + Sync, G: Gate + Sync>(
     threads: u32,
     budget: u64,
     gate: &G,
-) -> Result<(Printed, Beside), ThreadsFault>
-    ensures ok { IfOk result (λ r. RunsConcurrently threads budget text.now (printed_of r.0)) }
+) -> Result<RunLeft, ThreadsFault>
+    ensures ok { IfOk result (λ left. RunsConcurrently threads budget text.now (left_shown threads left)) }
     ensures err { IfErr result (λ f. IsThreadsFault text.now threads f) }
 {
     match compile(alloc, text) {
         Ok(compiled) => match run_code(rt, alloc, &compiled, threads, budget, gate) {
-            Ok(ran) => Ok(ran),
+            Ok(left) => Ok(left),
             Err(fault) => Err(ThreadsFault::Run(fault)),
         },
         Err(fault) => Err(ThreadsFault::Source(fault)),
@@ -124,35 +157,24 @@ fn run_code<H: Threads + Wait + Sync, G: Gate + Sync>(
     threads: u32,
     budget: u64,
     gate: &G,
-) -> Result<(Printed, Beside), RunFault>
-    ensures ok { IfOk result (λ r. IsCodeOf (program_of compiled.now.accepted.safe.typed.unit) compiled.now.code
+) -> Result<RunLeft, RunFault>
+    ensures ok { IfOk result (λ left. IsCodeOf (program_of compiled.now.accepted.safe.typed.unit) compiled.now.code
         → IsConcurrentRun (program_of compiled.now.accepted.safe.typed.unit) compiled.now.code threads budget
-        (printed_of r.0)) }
+        (left_shown threads left)) }
     ensures err { IfErr result (λ f. IsRunRefused f threads) }
 {
     let ran = run_all(rt, alloc, &compiled.code, threads, budget, gate)?;
-    match shown_concurrently(alloc, unit_of(&compiled.accepted), threads, &ran) {
-        Ok(printed) => Ok((printed, beside_of(alloc, &compiled.code, threads, ran))),
+    match memory_shown(alloc, unit_of(&compiled.accepted), &ran.memory) {
+        Ok(globals) => {
+            let stood = all_stood(alloc, &compiled.code, threads, ran.threads.as_slice());
+            Ok(RunLeft {
+                ran,
+                globals,
+                stood,
+            })
+        }
         Err(_) => Err(RunFault::OutOfMemory),
     }
-}
-
-/// The threads that a run leaves.
-fn finished_of(ran: RunReport) -> Vec<Finished> {
-    let RunReport {
-        memory: _memory,
-        threads,
-        ends: _ends,
-        overheld: _overheld,
-    } = ran;
-    threads
-}
-
-/// What is told beside the report of a run of so many threads.
-fn beside_of(alloc: Global, code: &Code, threads: u32, ran: RunReport) -> Beside {
-    let finished = finished_of(ran);
-    let stood = all_stood(alloc, code, threads, finished.as_slice());
-    Beside { finished, stood }
 }
 
 /// Where so many threads stand, by their numbers, as far as memory is had for it.
@@ -168,23 +190,6 @@ fn all_stood(alloc: Global, code: &Code, threads: u32, finished: &[Finished]) ->
         }
     }
     all
-}
-
-/// What the report of a run of all threads at once shows.
-fn shown_concurrently(
-    alloc: Global,
-    unit: &Unit,
-    threads: u32,
-    ran: &RunReport,
-) -> Result<Printed, AllocError>
-    ensures { IfOk result (λ r. printed_of r ≡ run_shown (program_of unit.now) threads ran.now) }
-{
-    Ok(Printed {
-        events: None,
-        threads: threads_shown(alloc, threads, ran)?,
-        globals: memory_shown(alloc, unit, &ran.memory)?,
-        holder: holder_of(&ran.memory),
-    })
 }
 
 /// The globals, where no thread has the lock.
@@ -212,57 +217,42 @@ fn holder_of(memory: &RunMemory) -> Option<u32>
 }
 
 /// What is shown of so many threads, by their numbers.
-fn threads_shown(
+fn threads_seen(
     alloc: Global,
     count: u32,
     ran: &RunReport,
-) -> Result<Items<ThreadShown, Global>, AllocError>
-    ensures { IfOk result (λ v. map thread_of v ≡ threads_of_run ran.now count) }
+) -> Result<Vec<ThreadSeen<'_>>, AllocError>
+    ensures { IfOk result (λ v. map seen_of v.items ≡ threads_of_run ran.now count) }
 {
-    let mut threads = Items::new(alloc);
+    let mut seen = Vec::new(alloc);
     'threads: for number in 0..count {
-        threads.push(thread_shown(alloc, number, ran)?)?;
+        seen.push(thread_seen(number, ran))?;
     }
-    Ok(threads)
+    Ok(seen)
 }
 
 /// The thread of this number.
-fn thread_shown(alloc: Global, number: u32, ran: &RunReport) -> Result<ThreadShown, AllocError>
-    ensures { IfOk result (λ s. thread_of s ≡ spec.thread_of_run ran.now number) }
+fn thread_seen(number: u32, ran: &RunReport) -> ThreadSeen<'_>
+    ensures { seen_of result ≡ spec.thread_of_run ran.now number }
 {
     let stopped = thread_stop(ran.ends.as_slice(), number);
-    finished_shown(
-        alloc,
-        stopped,
-        thread_numbered(ran.threads.as_slice(), number),
-    )
+    finished_seen(stopped, thread_numbered(ran.threads.as_slice(), number))
 }
 
-/// A thread after a run, where there is one.
-fn finished_shown(
-    alloc: Global,
-    stopped: Option<Stop>,
-    thread: Option<&Finished>,
-) -> Result<ThreadShown, AllocError>
-    ensures { IfOk result (λ s. thread_of s ≡ spec.finished_shown stopped (option_map (λ f. f.now) thread.entry)) }
+/// A thread after a run, where there is one, with the text that it has.
+fn finished_seen(stopped: Option<Stop>, thread: Option<&Finished>) -> ThreadSeen<'_>
+    ensures { seen_of result ≡ spec.finished_shown stopped (option_map (λ f. f.now) thread.entry) }
 {
     match thread {
-        Some(thread) => Ok(ThreadShown {
+        Some(thread) => ThreadSeen {
             end: end_of_run(thread.status(), stopped),
-            text: bytes_of(alloc, thread.output())?,
-        }),
-        None => Ok(ThreadShown {
+            text: thread.output().as_bytes(),
+        },
+        None => ThreadSeen {
             end: End::Running,
-            text: Items::new(alloc),
-        }),
+            text: b"",
+        },
     }
-}
-
-/// The bytes of a text.
-fn bytes_of(alloc: Global, text: &str) -> Result<Items<u8, Global>, AllocError>
-    ensures { IfOk result (λ v. v ≡ text.now) }
-{
-    Ok(Items::from_vec(Vec::from_slice(alloc, text.as_bytes())?))
 }
 
 /// The finished thread of this number.

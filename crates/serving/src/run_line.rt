@@ -7,9 +7,9 @@ use workers::Gate;
 /// After how many further steps of a thread the line is written anew: some tenth of a second.
 const STRIDE: u64 = 16_777_216;
 
-/// How often what a thread has printed and logged is held at most: lists grow by twice their room, and what is shown of
-/// a thread has a copy of its text.
-const COPIES: u64 = 4;
+/// How often what a thread has printed and logged is held at most: a list that is full is copied to where it has twice the
+/// room.
+const COPIES: u64 = 3;
 
 /// The line.
 #[derive(Drop)]

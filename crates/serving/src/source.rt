@@ -1,17 +1,18 @@
 //! `txc source`: threads of a source in an order.
 
-ghost use Rattle.std.specs.Prelude.{◌≡◌, ◌≤◌, IfOk, IfErr, OnOk, map};
+ghost use Rattle.std.specs.Prelude.{◌≡◌, IfOk, IfErr, OnOk, map};
 ghost use Rattle.serving.specs.Checks.{Accepts};
 ghost use Rattle.serving.specs.Orders.{RunsInOrder, IsOrderOf};
 ghost use Rattle.serving.specs.Refusals.{IsRefused, IsFaultInOrder, number_of_order};
 ghost use Rattle.serving.specs.Reports.{PrintsReport};
-ghost use Rattle.serving.specs.Written.{IsReportOf, WritesPart};
+ghost use Rattle.serving.specs.Written.{IsReportOf};
 ghost use Rattle.syntax.specs.Views.{program_of};
 ghost use Rattle.report.specs.Views.{printed_of, thread_of};
 ghost use Rattle.meaning.specs.InOrder.{IsFaultOfOrder};
 ghost use Rattle.meaning.specs.Outcomes.{thread_end_in};
 ghost use Rattle.serving.specs.Shows.{program_shown, order_end};
 ghost use Rattle.serving.specs.inner.ThreadReports.{report_shown};
+ghost use Rattle.serving.specs.inner.Serves.{ServesText};
 
 use crate::ends::{Stood, all_stood_in_source, tell_ends};
 use crate::globals::globals_shown;
@@ -38,14 +39,11 @@ pub(crate) fn in_order<A: Allocator + Copy, W: Write, E: Write>(
     out: &mut W,
     err: &mut E,
 ) -> u8
-    ensures status { result ≤ 4 }
-    ensures report { PrintsReport (λ shown. RunsInOrder threads ticks order.now text.now shown × Accepts text.now)
-        result (W.contents out.old) (W.contents out.new) }
-    ensures refused { result ≡ 1 → IsRefused text.now }
-    ensures written { WritesPart
-        (IsReportOf (λ shown. RunsInOrder threads ticks order.now text.now shown × Accepts text.now))
+    ensures { ServesText
+        (PrintsReport (λ shown. RunsInOrder threads ticks order.now text.now shown × Accepts text.now))
+        (IsRefused text.now)
+        (IsReportOf (λ shown. RunsInOrder threads ticks order.now text.now shown × Accepts text.now)) result
         (W.contents out.old) (W.contents out.new) }
-    ensures untouched { result ≡ 1 → W.contents out.new ≡ W.contents out.old }
 {
     match order_of_text(alloc, text, threads, order, ticks) {
         Ok((printed, stood)) => {

@@ -3,7 +3,6 @@ use Rattle.std.proofs.Common.{◌≡◌, ◌≢◌, All, ◌%◌, ◌≤◌, ◌
 use Rattle.std.specs.List.{AllByRecursion}
 use Rattle.std.specs.Prelude.{unwrap_or}
 use Rattle.std.proofs.lemmas.Option.{none-some}
-use Rattle.std.proofs.lemmas.List.Elements.{All-contains}
 use Rattle.syntax.specs.Behaviours.{Stopped, IsMemory, Means, Outcome, ThreadEnd}
 use Rattle.syntax.specs.Names.{bounds, globals, initial_from, initial_memory}
 use Rattle.syntax.specs.Names.{bounds_of as cell_bounds}

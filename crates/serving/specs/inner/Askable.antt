@@ -1,5 +1,5 @@
 -- What functions of a file say of themselves that are asked.
-use Rattle.std.specs.Prelude.{◌≡◌, ◌&&◌, ℕ, List, [], Bool, false, Option, None, Some, if◌then◌else◌, is_some, bytes_eq}
+use Rattle.std.specs.Prelude.{◌≡◌, ◌&&◌, ℕ, List, [], false, Option, None, Some, if◌then◌else◌, is_some, bytes_eq}
 use Rattle.lex.specs.declared.token.Scalar.TheVariants.{Int}
 use Rattle.syntax.specs.Tree.{Defines, Function, Item, Shares}
 use Rattle.safety.specs.Safe.{FunctionSet}

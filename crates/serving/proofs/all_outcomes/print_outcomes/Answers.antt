@@ -1,4 +1,4 @@
-use Rattle.std.proofs.Common.{◌∙◌, ap, ap₂, inr, map, subst}
+use Rattle.std.proofs.Common.{◌∙◌, ap₂, inr, map, subst}
 use Rattle.std.specs.Io.KnownBytes.{Appends}
 use Rattle.report.specs.OutcomeList.{list_text}
 use Rattle.report.specs.Views.{reported_of}

@@ -1,14 +1,14 @@
-use Rattle.std.proofs.Common.{◌∙◌, ap}
-use Rattle.serving.proofs.Verdicts.{certifies_reported, not_read_certifies, writes_reported}
+use Rattle.std.proofs.Common.{◌∙◌, ap, inr, refl}
+use Rattle.std.specs.Prelude.{string_bytes}
+use Rattle.serving.proofs.Opening.{claim_reported, claim_unread}
 use Rattle.serving.proofs.certify.open_report.Goals as goal
 
-pub returns-in-Ok-clause-answer : goal.returns-in-Ok-clause-answer
-returns-in-Ok-clause-answer g c =
-    certifies_reported (g.R.Read.remaining c.args.source) c.args.claim.now _ _ _ _ _ _ (c.in-Ok.ensures ∙ ap (g.F.Files.contents c.args.files.now) c.as_str.ensures.value) c.certify.ensures.answer
+pub returns-in-Ok : goal.returns-in-Ok
+returns-in-Ok g c =
+    let contents = g.F.Files.contents c.args.files.now in
+    claim_reported c.args.claim.now (g.S.Read.remaining c.args.order) (g.R.Read.remaining c.args.source) _ (contents (string_bytes c.args.claim.now.report)) c.certify.result _ _ (c.in-Ok.ensures ∙ ap contents c.as_str.ensures.value) c.certify.ensures
 
-pub returns-in-Ok-clause-written : goal.returns-in-Ok-clause-written
-returns-in-Ok-clause-written g c =
-    writes_reported (g.R.Read.remaining c.args.source) c.args.claim.now _ _ _ _ _ (c.in-Ok.ensures ∙ ap (g.F.Files.contents c.args.files.now) c.as_str.ensures.value) c.certify.ensures.written
-
-pub returns-in-Err-clause-answer : goal.returns-in-Err-clause-answer
-returns-in-Err-clause-answer g c = not_read_certifies (g.R.Read.remaining c.args.source) c.args.claim.now _ _ c.not_read.result _ _ c.not_read.ensures.status
+pub returns-in-Err : goal.returns-in-Err
+returns-in-Err g c =
+    let contents = g.F.Files.contents c.args.files.now in
+    claim_unread c.args.claim.now (g.S.Read.remaining c.args.order) (contents (string_bytes c.args.claim.now.report)) (g.R.Read.remaining c.args.source) c.not_read.result _ _ (inr c.not_read.ensures.status) refl

@@ -1,16 +1,19 @@
-use Rattle.std.proofs.Common.{◌∙◌, Some, ap}
-use Rattle.serving.proofs.Opening.{answers_scheduled}
-use Rattle.serving.proofs.Refusals.{not_read_answers}
-use Rattle.serving.specs.Files.{schedule_in}
+use Rattle.std.proofs.Common.{◌∙◌, Some, ap, inr, refl}
+use Rattle.serving.specs.Files.{schedule_in, schedule_of}
+use Rattle.serving.proofs.Opening.{task_scheduled, task_unread}
 use Rattle.serving.proofs.files.open_schedule.Goals as goal
 
-pub returns-in-Ok-clause-answer : goal.returns-in-Ok-clause-answer
-returns-in-Ok-clause-answer g c =
-    answers_scheduled (g.R.Read.remaining c.args.source) c.args.task.now _ _ _ _ _ (c.in-Ok.ensures ∙ ap (schedule_in (g.F.Files.contents c.args.files.now)) c.in-Some.ensures) c.serve_program.ensures.answer
+pub returns-in-Ok : goal.returns-in-Ok
+returns-in-Ok g c =
+    let contents = g.F.Files.contents c.args.files.now in
+    task_scheduled c.args.task.now (g.R.Read.remaining c.args.source) _ (schedule_in contents (schedule_of c.args.task.now)) c.serve_program.result _ _ (c.in-Ok.ensures ∙ ap (schedule_in contents) c.in-Some.ensures) c.serve_program.ensures
 
-pub returns-in-Err-clause-answer : goal.returns-in-Err-clause-answer
-returns-in-Err-clause-answer g c = not_read_answers (g.R.Read.remaining c.args.source) c.args.task.now _ c.not_read.result _ _ c.not_read.ensures.status
+pub returns-in-Err : goal.returns-in-Err
+returns-in-Err g c =
+    let contents = g.F.Files.contents c.args.files.now in
+    task_unread c.args.task.now (schedule_in contents (schedule_of c.args.task.now)) (g.R.Read.remaining c.args.source) c.not_read.result _ _ (inr c.not_read.ensures.status) refl
 
-pub returns-in-None-clause-answer : goal.returns-in-None-clause-answer
-returns-in-None-clause-answer g c =
-    answers_scheduled (g.R.Read.remaining c.args.source) c.args.task.now _ _ _ _ _ (ap Some c.as_slice.ensures ∙ ap (schedule_in (g.F.Files.contents c.args.files.now)) c.in-None.ensures) c.serve_program-in-None.ensures.answer
+pub returns-in-None : goal.returns-in-None
+returns-in-None g c =
+    let contents = g.F.Files.contents c.args.files.now in
+    task_scheduled c.args.task.now (g.R.Read.remaining c.args.source) _ (schedule_in contents (schedule_of c.args.task.now)) c.serve_program-in-None.result _ _ (ap Some c.as_slice.ensures ∙ ap (schedule_in contents) c.in-None.ensures) c.serve_program-in-None.ensures

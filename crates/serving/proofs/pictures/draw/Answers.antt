@@ -8,20 +8,23 @@ use Rattle.replay.specs.Replays.{simulation_after, timeline_of}
 use Rattle.serving.specs.Written.{IsReplayPicture, ReplayedTo}
 use Rattle.serving.proofs.pictures.draw.Goals as goal
 
-pub returns-in-Ok-clause-written : goal.returns-in-Ok-clause-written
-returns-in-Ok-clause-written g c =
+pub returns-in-Ok : goal.returns-in-Ok
+returns-in-Ok g c =
+    let shown = printed_of c.in-Ok.replayed.printed in
     let r : ReplayedTo c.args.threads c.args.steps.now (g.S.Read.remaining c.args.schedule) c.args.text.now = record {
       code = c.in-Ok.compiled.code;
       made = c.in-Ok.replayed.made.items;
       stopped = c.in-Ok.replayed.stop;
-      shown = printed_of c.in-Ok.replayed.printed;
+      shown = shown;
       replay = c.in-Ok.ensures.ok;
     } in
-    part_so (λ (t : List ℕ). IsDrawn c.args.text.now c.args.from c.in-Ok.compiled.code (timeline_of (simulation_after c.in-Ok.compiled.code c.args.threads c.in-Ok.replayed.made.items)) t) (IsReplayPicture c.args.threads c.args.from c.args.steps.now (g.S.Read.remaining c.args.schedule) c.args.text.now) (g.W.Write.contents c.args.out.now) (g.W.Write.contents c.print_picture.new.out) (λ t e. (r, e)) c.print_picture.ensures.written
-
-pub returns-in-Ok-clause-picture : goal.returns-in-Ok-clause-picture
-returns-in-Ok-clause-picture g c = λ status.
-    let shown = printed_of c.in-Ok.replayed.printed in
-    let printed = c.print_picture.ensures.picture status in
-    let drawn = replays_drawn c.args.threads c.args.from c.args.steps.now _ c.args.text.now c.in-Ok.compiled.code c.in-Ok.replayed.made.items c.in-Ok.replayed.stop shown printed.0 (c.print_picture.ensures.whole status) c.in-Ok.ensures.ok printed.2.0 in
-    (printed.0, shown, drawn, subst (λ s. c.print_picture.result ≡ exit_status s) printed.2.1 printed.3, printed.4)
+    record {
+      within = c.print_picture.ensures.status;
+      answers = λ status.
+          let printed = c.print_picture.ensures.picture status in
+          let drawn = replays_drawn c.args.threads c.args.from c.args.steps.now _ c.args.text.now c.in-Ok.compiled.code c.in-Ok.replayed.made.items c.in-Ok.replayed.stop shown printed.0 (c.print_picture.ensures.whole status) c.in-Ok.ensures.ok printed.2.0 in
+          (printed.0, shown, drawn, subst (λ s. c.print_picture.result ≡ exit_status s) printed.2.1 printed.3, printed.4);
+      refused = λ one. absurd (c.print_picture.ensures.not_refused one);
+      written = part_so (λ (t : List ℕ). IsDrawn c.args.text.now c.args.from c.in-Ok.compiled.code (timeline_of (simulation_after c.in-Ok.compiled.code c.args.threads c.in-Ok.replayed.made.items)) t) (IsReplayPicture c.args.threads c.args.from c.args.steps.now (g.S.Read.remaining c.args.schedule) c.args.text.now) (g.W.Write.contents c.args.out.now) (g.W.Write.contents c.print_picture.new.out) (λ t e. (r, e)) c.print_picture.ensures.written;
+      untouched = λ one. absurd (c.print_picture.ensures.not_refused one);
+    }

@@ -10,24 +10,27 @@ use Rattle.report.specs.Report.{report_text}
 use Rattle.serving.specs.Written.{IsReplayTimeline, ReplayedTo}
 use Rattle.serving.proofs.replays.show_steps.Goals as goal
 
-pub returns-in-Ok-clause-timeline : goal.returns-in-Ok-clause-timeline
-returns-in-Ok-clause-timeline g c = λ status.
+pub returns-in-Ok : goal.returns-in-Ok
+returns-in-Ok g c =
     let made : List ℕ = c.in-Ok.replayed.made.items in
     let lines : List ℕ = timeline_text c.in-Ok.compiled.code (timeline_of (simulation_after c.in-Ok.compiled.code c.args.threads made)) in
     let report = printed_of c.in-Ok.replayed.printed in
-    let printed = c.print_timeline-status.ensures.report status in
-    let whole = c.print_timeline-status.ensures.whole status in
-    let shown = replays_shown c.args.threads c.args.steps.now _ c.args.text.now c.in-Ok.compiled.code made c.in-Ok.replayed.stop report whole c.in-Ok.ensures.ok in
-    let replay = replays c.args.threads c.args.steps.now _ c.args.text.now c.in-Ok.compiled.code made c.in-Ok.replayed.stop report whole c.in-Ok.ensures.ok in
-    (lines, report, (c.reports_are_orders.ensures.replays c.args.threads c.args.steps.now _ c.args.text.now report replay (none_stopped _ report status printed.0), accepts c.args.text.now _ c.in-Ok.ensures.ok.compiled, shown), printed.0, printed.1)
-
-pub returns-in-Ok-clause-written : goal.returns-in-Ok-clause-written
-returns-in-Ok-clause-written g c =
     let r : ReplayedTo c.args.threads c.args.steps.now (g.S.Read.remaining c.args.schedule) c.args.text.now = record {
       code = c.in-Ok.compiled.code;
-      made = c.in-Ok.replayed.made.items;
+      made = made;
       stopped = c.in-Ok.replayed.stop;
-      shown = printed_of c.in-Ok.replayed.printed;
+      shown = report;
       replay = c.in-Ok.ensures.ok;
     } in
-    part_so (λ (t : List ℕ). t ≡ timeline_text c.in-Ok.compiled.code (timeline_of (simulation_after c.in-Ok.compiled.code c.args.threads c.in-Ok.replayed.made.items)) ++ report_text (printed_of c.in-Ok.replayed.printed)) (IsReplayTimeline c.args.threads c.args.steps.now (g.S.Read.remaining c.args.schedule) c.args.text.now) (g.W.Write.contents c.args.out.now) (g.W.Write.contents c.print_timeline-status.new.out) (λ t e. (r, e)) c.print_timeline-status.ensures.written
+    record {
+      within = c.print_timeline-status.ensures.status;
+      answers = λ status.
+          let printed = c.print_timeline-status.ensures.report status in
+          let whole = c.print_timeline-status.ensures.whole status in
+          let shown = replays_shown c.args.threads c.args.steps.now _ c.args.text.now c.in-Ok.compiled.code made c.in-Ok.replayed.stop report whole c.in-Ok.ensures.ok in
+          let replay = replays c.args.threads c.args.steps.now _ c.args.text.now c.in-Ok.compiled.code made c.in-Ok.replayed.stop report whole c.in-Ok.ensures.ok in
+          (lines, report, (c.reports_are_orders.ensures.replays c.args.threads c.args.steps.now _ c.args.text.now report replay (none_stopped _ report status printed.0), accepts c.args.text.now _ c.in-Ok.ensures.ok.compiled, shown), printed.0, printed.1);
+      refused = λ one. absurd (c.print_timeline-status.ensures.not_refused one);
+      written = part_so (λ (t : List ℕ). t ≡ lines ++ report_text report) (IsReplayTimeline c.args.threads c.args.steps.now (g.S.Read.remaining c.args.schedule) c.args.text.now) (g.W.Write.contents c.args.out.now) (g.W.Write.contents c.print_timeline-status.new.out) (λ t e. (r, e)) c.print_timeline-status.ensures.written;
+      untouched = λ one. absurd (c.print_timeline-status.ensures.not_refused one);
+    }

@@ -1,8 +1,11 @@
-use Rattle.serving.proofs.Refusals.{unread_answers, unread_says}
+use Rattle.std.proofs.Common.{refl}
+use Rattle.std.specs.Prelude.{string_bytes}
+use Rattle.serving.proofs.Opening.{task_read, task_unread}
 use Rattle.serving.proofs.request.serve_program.Goals as goal
 
-pub returns-in-Err-clause-answer : goal.returns-in-Err-clause-answer
-returns-in-Err-clause-answer g c = unread_answers (g.R.Read.remaining c.args.source) c.args.task.now (g.S.Read.remaining c.args.schedule) c.in-Err.status _ _ c.in-Err.ensures.status
+pub returns-in-Ok : goal.returns-in-Ok
+returns-in-Ok g c =
+    task_read c.args.task.now (g.S.Read.remaining c.args.schedule) (g.R.Read.remaining c.args.source) (string_bytes c.in-Ok.text) c.as_str.result.now c.work.result _ _ c.in-Ok.ensures.ok c.as_str.ensures.value c.work.ensures
 
-pub returns-in-Err-clause-refused : goal.returns-in-Err-clause-refused
-returns-in-Err-clause-refused g c = unread_says (g.R.Read.remaining c.args.source) c.args.task.now c.in-Err.status c.in-Err.ensures.status
+pub returns-in-Err : goal.returns-in-Err
+returns-in-Err g c = task_unread c.args.task.now (g.S.Read.remaining c.args.schedule) (g.R.Read.remaining c.args.source) c.in-Err.status _ _ c.in-Err.ensures.status refl

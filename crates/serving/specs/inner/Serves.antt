@@ -1,0 +1,72 @@
+-- What the exit status of what is asked says, and what is written whatever it is.
+use Rattle.std.specs.Prelude.{◌≡◌, ◌≤◌, ℕ, List, Option, IfSome}
+use Rattle.command.specs.declared.request.Claim.{Claim}
+use Rattle.command.specs.declared.request.Comparison.{Comparison}
+use Rattle.command.specs.declared.request.Questions.{Questions}
+use Rattle.command.specs.declared.request.Task.{Task}
+use Rattle.serving.specs.Answers.{Answers}
+use Rattle.serving.specs.Certified.{CertifiesReport, WritesVerdict}
+use Rattle.serving.specs.Compared.{ComparesOutcomes, HaveNoCode, IsEither, Tells, WritesComparison}
+use Rattle.serving.specs.Limits.{HasNoCode}
+use Rattle.serving.specs.Properties.{AnswersQuestions, IsToldOf}
+use Rattle.serving.specs.Refusals.{IsRefused}
+use Rattle.serving.specs.Refused.{IsRefusedFor}
+use Rattle.serving.specs.Written.{IsAskedFor, WritesPart}
+
+-- The status is at most so much; it says this of what was printed: the bytes that the writer had, if they are known, and
+-- those that it has then; with 1 a text is refused, and nothing is printed; and this is written whatever it is.
+pub record Serves (most : ℕ) (Says : ℕ → Option (List ℕ) → Option (List ℕ) → Type 0) (Refuses : Type 0)
+    (Writes : Option (List ℕ) → Option (List ℕ) → Type 0) (status : ℕ) (old new : Option (List ℕ)) : Type 0 where
+  pub within : status ≤ most
+  pub answers : Says status old new
+  pub refused : status ≡ 1 → Refuses
+  pub written : Writes old new
+  pub untouched : status ≡ 1 → new ≡ old
+
+-- one task with a text: nothing is written, what is asked for, or a beginning of that
+abbrev pub ServesText : (Says : ℕ → Option (List ℕ) → Option (List ℕ) → Type 0) → (Refuses : Type 0) →
+    (IsAsked : List ℕ → Type 0) → (status : ℕ) → (old new : Option (List ℕ)) → Type 0
+ServesText Says Refuses IsAsked status old new = Serves 4 Says Refuses (WritesPart IsAsked) status old new
+
+-- what is asked of a file, where its bytes are known
+abbrev pub ServesFile : (most : ℕ) → (Says : List ℕ → ℕ → Option (List ℕ) → Option (List ℕ) → Type 0) →
+    (Refuses : List ℕ → Type 0) → (Writes : List ℕ → Option (List ℕ) → Option (List ℕ) → Type 0) →
+    (bytes : Option (List ℕ)) → (status : ℕ) → (old new : Option (List ℕ)) → Type 0
+ServesFile most Says Refuses Writes bytes status old new =
+    Serves most (λ s o n. IfSome bytes (λ text. Says text s o n)) (IfSome bytes (λ text. Refuses text))
+    (λ o n. IfSome bytes (λ text. Writes text o n)) status old new
+
+-- a task with these bytes
+abbrev pub ServesTask : Task → (schedule bytes : Option (List ℕ)) → (status : ℕ) → (old new : Option (List ℕ)) →
+    Type 0
+ServesTask task schedule bytes status old new =
+    ServesFile 4 (λ text s o n. Answers task schedule text s o n) (λ text. IsRefusedFor task text)
+    (λ text o n. WritesPart (IsAskedFor task schedule text) o n) bytes status old new
+
+-- a claim of them
+abbrev pub ServesClaim : Claim → (listed report bytes : Option (List ℕ)) → (status : ℕ) →
+    (old new : Option (List ℕ)) → Type 0
+ServesClaim claim listed report bytes status old new =
+    ServesFile 5 (λ text s o n. CertifiesReport claim listed report text s o n) (λ text. IsRefused text)
+    (λ text o n. WritesVerdict claim listed report text o n) bytes status old new
+
+-- their outcomes, compared with other bytes
+abbrev pub ServesComparison : Comparison → (other bytes : Option (List ℕ)) → (status : ℕ) →
+    (old new : Option (List ℕ)) → Type 0
+ServesComparison c other bytes status old new =
+    ServesFile 5 (λ text s o n. ComparesOutcomes c other text s o n) (λ text. HaveNoCode c.against other text)
+    (λ text o n. WritesComparison c other text o n) bytes status old new
+
+-- questions of their functions
+abbrev pub ServesQuestions : Questions → (bytes : Option (List ℕ)) → (status : ℕ) → (old new : Option (List ℕ)) →
+    Type 0
+ServesQuestions questions bytes status old new =
+    ServesFile 5 (λ text s o n. AnswersQuestions questions text s o n) (λ text. HasNoCode text)
+    (λ text o n. WritesPart (IsToldOf questions text) o n) bytes status old new
+
+-- whether something is so of these bytes or not
+abbrev pub ServesEither : (IsSo IsNot : List ℕ → List ℕ → Type 0) → (Refuses : Type 0) → (bytes : Option (List ℕ)) →
+    (status : ℕ) → (old new : Option (List ℕ)) → Type 0
+ServesEither IsSo IsNot Refuses bytes status old new =
+    Serves 5 (λ s o n. IfSome bytes (λ other. Tells (IsSo other) (IsNot other) s o n)) Refuses
+    (λ o n. IfSome bytes (λ other. WritesPart (IsEither (IsSo other) (IsNot other)) o n)) status old new
