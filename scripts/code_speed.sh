@@ -25,7 +25,7 @@ use separation::{Accepted, accept};
 use std::alloc::{AllocError, Global as Memory};
 use std::io;
 use std::time::Instant;
-use syntax::tree::{Global, Name};
+use syntax::tree::{BinaryOp, Global, Name};
 use types::check;
 
 // The program of a text, where it is accepted.
@@ -168,7 +168,7 @@ fn ran(rt: &HostRuntime, code: &Code, steps: u64) -> io::Result<u128> {
 
 // Prints what it takes to find out that the longest code is valid.
 fn longest(rt: &HostRuntime) -> io::Result<()> {
-    let mut straight = vec![in rt.alloc(); Instr::AddUnsigned(1, 1, 2); MOST_INSTRUCTIONS - 1]?;
+    let mut straight = vec![in rt.alloc(); Instr::Compute(BinaryOp::Add, Scalar::Unsigned, 1, 1, 2); MOST_INSTRUCTIONS - 1]?;
     straight.push(Instr::Return)?;
     let mut jumps = vec![in rt.alloc(); Instr::JumpZero(0, 0); MOST_INSTRUCTIONS - 1]?;
     jumps.push(Instr::Return)?;
@@ -183,7 +183,7 @@ fn counts(rt: &HostRuntime) -> io::Result<()> {
         Instr::Constant(1, 10_000_000),
         Instr::Constant(2, 1),
         Instr::JumpZero(1, 5),
-        Instr::SubtractSigned(1, 1, 2),
+        Instr::Compute(BinaryOp::Subtract, Scalar::Int, 1, 1, 2),
         Instr::Jump(2),
         Instr::Return,
     ];

@@ -7,6 +7,7 @@ ghost use Rattle.std.specs.Prelude.{◌≡◌, []};
 ghost use Rattle.bytecode.specs.Code.{operator_of};
 ghost use Rattle.bytecode.specs.Views.{instr_of};
 
+use crate::kinds::computing;
 use lex::token::Scalar;
 use syntax::tree::BinaryOp;
 
@@ -20,101 +21,19 @@ pub enum Instr {
     /// `move rD rA`: rD = rA.
     Move(u16, u16),
 
-    /// `add.s rD rA rB`: rD = rA + rB as `int`; trap 1 out of its range.
-    AddSigned(u16, u16, u16),
-
-    /// `add.u rD rA rB`: rD = rA + rB modulo 2^32.
-    AddUnsigned(u16, u16, u16),
-
-    /// `add.l rD rA rB`: rD = rA + rB as `long long`; trap 1 out of its range.
-    AddLong(u16, u16, u16),
-
-    /// `sub.s rD rA rB`: rD = rA - rB as `int`; trap 1 out of its range.
-    SubtractSigned(u16, u16, u16),
-
-    /// `sub.u rD rA rB`: rD = rA - rB modulo 2^32.
-    SubtractUnsigned(u16, u16, u16),
-
-    /// `sub.l rD rA rB`: rD = rA - rB as `long long`; trap 1 out of its range.
-    SubtractLong(u16, u16, u16),
-
-    /// `mul.s rD rA rB`: rD = rA * rB as `int`; trap 1 out of its range.
-    MultiplySigned(u16, u16, u16),
-
-    /// `mul.u rD rA rB`: rD = rA * rB modulo 2^32.
-    MultiplyUnsigned(u16, u16, u16),
-
-    /// `mul.l rD rA rB`: rD = rA * rB as `long long`; trap 1 out of its range.
-    MultiplyLong(u16, u16, u16),
-
-    /// `div.s rD rA rB`: rD = rA / rB as `int`, towards zero; trap 2 where rB is 0, trap 1 out of its range.
-    DivideSigned(u16, u16, u16),
-
-    /// `div.u rD rA rB`: rD = rA / rB as `unsigned`; trap 2 where rB is 0.
-    DivideUnsigned(u16, u16, u16),
-
-    /// `div.l rD rA rB`: rD = rA / rB as `long long`, towards zero; trap 2 where rB is 0, trap 1 out of its range.
-    DivideLong(u16, u16, u16),
-
-    /// `rem.s rD rA rB`: rD = rA % rB as `int`, what division leaves; traps where `div.s` does.
-    RemainderSigned(u16, u16, u16),
-
-    /// `rem.u rD rA rB`: rD = rA % rB as `unsigned`; trap 2 where rB is 0.
-    RemainderUnsigned(u16, u16, u16),
-
-    /// `rem.l rD rA rB`: rD = rA % rB as `long long`, what division leaves; traps where `div.l` does.
-    RemainderLong(u16, u16, u16),
-
-    /// `shl.s rD rA rB`: rD = rA * 2^rB as `int`; trap 5 where rB is not 0 to 31, trap 1 out of its range.
-    ShiftLeftSigned(u16, u16, u16),
-
-    /// `shl.u rD rA rB`: rD = rA * 2^rB modulo 2^32; trap 5 where rB is not 0 to 31.
-    ShiftLeftUnsigned(u16, u16, u16),
-
-    /// `shl.l rD rA rB`: rD = rA * 2^rB as `long long`; trap 5 where rB is not 0 to 63, trap 1 out of its range.
-    ShiftLeftLong(u16, u16, u16),
-
-    /// `shr.s rD rA rB`: rD = rA / 2^rB as `int`, rounded down; trap 5 where rB is not 0 to 31.
-    ShiftRightSigned(u16, u16, u16),
-
-    /// `shr.u rD rA rB`: rD = rA / 2^rB as `unsigned`; trap 5 where rB is not 0 to 31.
-    ShiftRightUnsigned(u16, u16, u16),
-
-    /// `shr.l rD rA rB`: rD = rA / 2^rB as `long long`, rounded down; trap 5 where rB is not 0 to 63.
-    ShiftRightLong(u16, u16, u16),
-
-    /// `and rD rA rB`: rD = rA & rB, bit by bit.
-    And(u16, u16, u16),
-
-    /// `or rD rA rB`: rD = rA | rB, bit by bit.
-    Or(u16, u16, u16),
-
-    /// `xor rD rA rB`: rD = rA ^ rB, bit by bit.
-    Xor(u16, u16, u16),
-
-    /// `eq rD rA rB`: rD = 1 where both hold the same word, else 0.
-    Equal(u16, u16, u16),
-
-    /// `ne rD rA rB`: rD = 0 where both hold the same word, else 1.
-    NotEqual(u16, u16, u16),
-
-    /// `lt.s rD rA rB`: rD = 1 where rA < rB as `int`, else 0.
-    LessSigned(u16, u16, u16),
-
-    /// `lt.u rD rA rB`: rD = 1 where rA < rB as `unsigned`, else 0.
-    LessUnsigned(u16, u16, u16),
-
-    /// `lt.l rD rA rB`: rD = 1 where rA < rB as `long long`, else 0.
-    LessLong(u16, u16, u16),
-
-    /// `le.s rD rA rB`: rD = 1 where rA <= rB as `int`, else 0.
-    LessEqualSigned(u16, u16, u16),
-
-    /// `le.u rD rA rB`: rD = 1 where rA <= rB as `unsigned`, else 0.
-    LessEqualUnsigned(u16, u16, u16),
-
-    /// `le.l rD rA rB`: rD = 1 where rA <= rB as `long long`, else 0.
-    LessEqualLong(u16, u16, u16),
+    /// An operator of two registers on words of a type, `rD rA rB`, as a program has it. Behind its name stands `.s`
+    /// where it is of `int`, `.u` of `unsigned int`, `.l` of `long long`; `and`, `or`, `xor`, `eq` and `ne` look at the
+    /// words alone, and `>` and `>=` are `lt` and `le` the other way round.
+    ///
+    /// - `add`, `sub`, `mul`: rD = rA + rB, rA - rB, rA * rB; trap 1 out of the range of `.s` and `.l`, modulo 2^32 in
+    ///   `.u`.
+    /// - `div`, `rem`: rD = rA / rB, towards zero, and what division leaves; trap 2 where rB is 0, trap 1 where the
+    ///   quotient is out of range.
+    /// - `shl`: rD = rA * 2^rB, out of range as a product; `shr`: rD = rA / 2^rB, rounded down; trap 5 where rB is not 0
+    ///   to 31, or 63 in `.l`.
+    /// - `and`, `or`, `xor`: rD = rA & rB, rA | rB, rA ^ rB, bit by bit.
+    /// - `eq`, `ne`, `lt`, `le`: rD = 1 where rA = rB, and so on, else 0.
+    Compute(BinaryOp, Scalar, u16, u16, u16),
 
     /// `neg.s rD rA`: rD = -rA as `int`; trap 1 out of its range.
     NegateSigned(u16, u16),
@@ -201,86 +120,13 @@ pub enum Instr {
 }
 
 impl Instr {
-    /// The operator of two registers that the instruction is, its type, the register that takes the result, and these
-    /// two; none for any other instruction. Where words of all types have one operator, its type is `unsigned int`.
+    /// The operator of two registers that a listing shows of the instruction, its type, the register that takes the
+    /// result, and these two; none for any other instruction.
     pub fn operator(&self) -> Option<(BinaryOp, Scalar, u16, u16, u16)>
         ensures { result ≡ operator_of (instr_of [] self.now) }
     {
         match *self {
-            Instr::AddSigned(d, a, b) => Some((BinaryOp::Add, Scalar::Int, d, a, b)),
-            Instr::AddUnsigned(d, a, b) => Some((BinaryOp::Add, Scalar::Unsigned, d, a, b)),
-            Instr::AddLong(d, a, b) => Some((BinaryOp::Add, Scalar::LongLong, d, a, b)),
-            Instr::SubtractSigned(d, a, b) => Some((BinaryOp::Subtract, Scalar::Int, d, a, b)),
-            Instr::SubtractUnsigned(d, a, b) => Some((
-                BinaryOp::Subtract,
-                Scalar::Unsigned,
-                d,
-                a,
-                b,
-            )),
-            Instr::SubtractLong(d, a, b) => Some((BinaryOp::Subtract, Scalar::LongLong, d, a, b)),
-            Instr::MultiplySigned(d, a, b) => Some((BinaryOp::Multiply, Scalar::Int, d, a, b)),
-            Instr::MultiplyUnsigned(d, a, b) => Some((
-                BinaryOp::Multiply,
-                Scalar::Unsigned,
-                d,
-                a,
-                b,
-            )),
-            Instr::MultiplyLong(d, a, b) => Some((BinaryOp::Multiply, Scalar::LongLong, d, a, b)),
-            Instr::DivideSigned(d, a, b) => Some((BinaryOp::Divide, Scalar::Int, d, a, b)),
-            Instr::DivideUnsigned(d, a, b) => Some((BinaryOp::Divide, Scalar::Unsigned, d, a, b)),
-            Instr::DivideLong(d, a, b) => Some((BinaryOp::Divide, Scalar::LongLong, d, a, b)),
-            Instr::RemainderSigned(d, a, b) => Some((BinaryOp::Remainder, Scalar::Int, d, a, b)),
-            Instr::RemainderUnsigned(d, a, b) => Some((
-                BinaryOp::Remainder,
-                Scalar::Unsigned,
-                d,
-                a,
-                b,
-            )),
-            Instr::RemainderLong(d, a, b) => Some((BinaryOp::Remainder, Scalar::LongLong, d, a, b)),
-            Instr::ShiftLeftSigned(d, a, b) => Some((BinaryOp::ShiftLeft, Scalar::Int, d, a, b)),
-            Instr::ShiftLeftUnsigned(d, a, b) => Some((
-                BinaryOp::ShiftLeft,
-                Scalar::Unsigned,
-                d,
-                a,
-                b,
-            )),
-            Instr::ShiftLeftLong(d, a, b) => Some((BinaryOp::ShiftLeft, Scalar::LongLong, d, a, b)),
-            Instr::ShiftRightSigned(d, a, b) => Some((BinaryOp::ShiftRight, Scalar::Int, d, a, b)),
-            Instr::ShiftRightUnsigned(d, a, b) => Some((
-                BinaryOp::ShiftRight,
-                Scalar::Unsigned,
-                d,
-                a,
-                b,
-            )),
-            Instr::ShiftRightLong(d, a, b) => Some((
-                BinaryOp::ShiftRight,
-                Scalar::LongLong,
-                d,
-                a,
-                b,
-            )),
-            Instr::And(d, a, b) => Some((BinaryOp::And, Scalar::Unsigned, d, a, b)),
-            Instr::Or(d, a, b) => Some((BinaryOp::Or, Scalar::Unsigned, d, a, b)),
-            Instr::Xor(d, a, b) => Some((BinaryOp::Xor, Scalar::Unsigned, d, a, b)),
-            Instr::Equal(d, a, b) => Some((BinaryOp::Equal, Scalar::Unsigned, d, a, b)),
-            Instr::NotEqual(d, a, b) => Some((BinaryOp::NotEqual, Scalar::Unsigned, d, a, b)),
-            Instr::LessSigned(d, a, b) => Some((BinaryOp::Less, Scalar::Int, d, a, b)),
-            Instr::LessUnsigned(d, a, b) => Some((BinaryOp::Less, Scalar::Unsigned, d, a, b)),
-            Instr::LessLong(d, a, b) => Some((BinaryOp::Less, Scalar::LongLong, d, a, b)),
-            Instr::LessEqualSigned(d, a, b) => Some((BinaryOp::LessEqual, Scalar::Int, d, a, b)),
-            Instr::LessEqualUnsigned(d, a, b) => Some((
-                BinaryOp::LessEqual,
-                Scalar::Unsigned,
-                d,
-                a,
-                b,
-            )),
-            Instr::LessEqualLong(d, a, b) => Some((BinaryOp::LessEqual, Scalar::LongLong, d, a, b)),
+            Instr::Compute(op, ty, d, a, b) => Some(computing(op, ty, d, a, b)),
             Instr::Constant(_, _) => None,
             Instr::Move(_, _) => None,
             Instr::NegateSigned(_, _) => None,

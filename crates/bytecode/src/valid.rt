@@ -14,13 +14,14 @@ ghost use Rattle.bytecode.specs.Views.{code_of, function_of};
 ghost use Rattle.bytecode.specs.inner.Layout.{AreLaidOut};
 
 use crate::code::{Code, FunctionCode, Parts};
-use crate::limits::{MOST_CELLS, MOST_INSTRUCTIONS, MOST_REGISTERS};
+use crate::limits::{MOST_INSTRUCTIONS, MOST_REGISTERS};
 use crate::walk::walk;
 use crate::written::is_written;
 use name_tables::Keyed;
 use std::alloc::{AllocError, Allocator};
 use std::collections::HashSet;
 use std::hash::{DefaultHasher, Hash, Hasher};
+use syntax::limits::MOST_CELLS;
 use syntax::tree::Global;
 
 /// Why it was not found out whether parts are valid: they come back as they were given.

@@ -3,11 +3,13 @@
 use crate::asserted::{assert_all, assert_that};
 use crate::wanted::{Wanted, is_as};
 use bytecode::{Code, Instr};
+use lex::token::Scalar;
 use machine::{Event, StepShown};
 use norec_core::{Access, Answer};
 use replay::{Line, read_schedule, replay, seeded, timeline};
 use std::alloc::Global;
 use syntax::thread_end::{Status, Trap};
+use syntax::tree::BinaryOp;
 use test_codes::{code_of, over_x, traps};
 use world::{StopReason, WorldEnd};
 
@@ -17,7 +19,7 @@ fn adds_one() -> &'static [Instr] {
         Instr::Begin(6),
         Instr::Read(0, 0),
         Instr::Constant(1, 1),
-        Instr::AddSigned(0, 0, 1),
+        Instr::Compute(BinaryOp::Add, Scalar::Int, 0, 0, 1),
         Instr::Write(0, 0),
         Instr::Commit,
         Instr::Return,
@@ -116,7 +118,7 @@ fn takes_back() -> &'static [Instr] {
         Instr::Begin(13),
         Instr::Read(0, 0),
         Instr::Constant(1, 1),
-        Instr::AddSigned(0, 0, 1),
+        Instr::Compute(BinaryOp::Add, Scalar::Int, 0, 0, 1),
         Instr::Write(0, 0),
         Instr::Begin(11),
         Instr::Constant(0, 9),

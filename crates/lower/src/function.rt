@@ -9,7 +9,8 @@ ghost use Rattle.selection.specs.Programs.{body_preloaded, body_with, body_writt
 ghost use Rattle.lower_exprs.specs.Limits.{NeedsMore};
 ghost use Rattle.lower_exprs.specs.Lists.{lists_of};
 ghost use Rattle.lower_exprs.specs.Fragments.{AddsWritten};
-ghost use Rattle.lower_exprs.specs.Views.{program_in, scope_in};
+ghost use Rattle.lower_exprs.specs.Views.{scope_in};
+ghost use Rattle.program_tables.specs.Views.{program_in};
 
 use crate::loops::in_loops;
 use crate::stmt::lower_stmts;
@@ -19,9 +20,9 @@ use lower_exprs::fault::LowerFailure;
 use lower_exprs::lists::Lists;
 use lower_exprs::origins::note;
 use lower_exprs::preloaded::set_all;
-use lower_exprs::program::ProgramNames;
 use lower_exprs::put::{after, put};
 use lower_exprs::scope::LocalRegisters;
+use program_tables::ProgramTables;
 use selection::locations::Exits;
 use std::alloc::{AllocError, Allocator};
 use syntax::tree::{Function, Parameter, Stmt};
@@ -42,7 +43,7 @@ fn declare_parameter<'p, A: Allocator + Copy>(
 
 /// The locals that a function begins with: its parameters, where they have names.
 fn parameter_locals<'p, A: Allocator + Copy>(
-    names: &ProgramNames<'p, A>,
+    names: &ProgramTables<'p, A>,
     parameters: &'p [Parameter<A>],
 ) -> Result<LocalRegisters<'p, A>, AllocError>
     ensures { IfOk result (λ s. scope_in s ≡ parameter_locals (map parameter_of parameters.now)) }
@@ -67,7 +68,7 @@ fn given_type(given: Option<Scalar>) -> Scalar
 /// A function's body with the constants that are preloaded, and a return where that runs off its end; the place behind
 /// them.
 fn lower_body<'p, A: Allocator + Copy>(
-    names: &ProgramNames<'p, A>,
+    names: &ProgramTables<'p, A>,
     lists: &mut Lists<A>,
     code: &mut Vec<Instr, A>,
     f: &'p Function<A>,
@@ -123,7 +124,7 @@ fn cut_to<A: Allocator>(lists: &mut Lists<A>, code: &mut Vec<Instr, A>, lengths:
 
 /// A function's body as it stands; the place behind it.
 fn lower_plain<'p, A: Allocator + Copy>(
-    names: &ProgramNames<'p, A>,
+    names: &ProgramTables<'p, A>,
     lists: &mut Lists<A>,
     code: &mut Vec<Instr, A>,
     f: &'p Function<A>,
@@ -143,7 +144,7 @@ fn lower_plain<'p, A: Allocator + Copy>(
 /// A function's body that finds these constants preloaded, and in front of it the instructions that set them in
 /// registers from this one on; the place behind it.
 fn lower_preloaded<'p, A: Allocator + Copy>(
-    names: &ProgramNames<'p, A>,
+    names: &ProgramTables<'p, A>,
     lists: &mut Lists<A>,
     code: &mut Vec<Instr, A>,
     f: &'p Function<A>,
@@ -199,7 +200,7 @@ fn is_better(registers: u32, constants: &[u64]) -> bool
 /// A function's instructions; the place behind them. Its body is made as it stands, and where its loops compute with
 /// constants once more, with these in registers behind its own, where they are set once.
 pub(crate) fn lower_function<'p, A: Allocator + Copy>(
-    names: &ProgramNames<'p, A>,
+    names: &ProgramTables<'p, A>,
     lists: &mut Lists<A>,
     code: &mut Vec<Instr, A>,
     f: &'p Function<A>,

@@ -13,7 +13,7 @@ ghost use Rattle.lower.specs.Faults.{IsLowerFaultOf};
 ghost use Rattle.lower_exprs.specs.Lists.{lists_of};
 ghost use Rattle.lower.specs.inner.Parts.{made_in, made_behind, made_once};
 ghost use Rattle.lower.specs.inner.Parts.{IsOfDefinition, IsOfItem, IsOfCode};
-ghost use Rattle.lower_exprs.specs.Views.{program_in};
+ghost use Rattle.program_tables.specs.Views.{program_in};
 
 use crate::deep::first_too_deep;
 use crate::fault::LowerFault;
@@ -22,9 +22,8 @@ use bytecode::{Code, FunctionCode, Instr, MOST_INSTRUCTIONS, MOST_REGISTERS, Ori
 use containers::{Copied, Items};
 use lower_exprs::fault::LowerFailure;
 use lower_exprs::lists::Lists;
-use lower_exprs::program::ProgramNames;
-use lower_exprs::tables::names;
 use lower_spec::laws::lowered_code_means;
+use program_tables::{ProgramTables, tables};
 use selection::laws::{picked_code_is_valid, picked_code_stands};
 use separation::Accepted;
 use separation::laws::never_astray;
@@ -46,7 +45,7 @@ struct Making<A: Allocator> {
 
 /// One definition more.
 fn lower_definition<'p, A: Allocator + Copy>(
-    names: &ProgramNames<'p, A>,
+    names: &ProgramTables<'p, A>,
     making: &mut Making<A>,
     f: &'p Function<A>,
     body: &'p [Stmt<A>],
@@ -116,7 +115,7 @@ fn copy_globals<A: Allocator + Copy>(
 
 /// One item more: a definition's code, or copies of globals. A prototype has none.
 fn lower_item<'p, A: Allocator + Copy>(
-    names: &ProgramNames<'p, A>,
+    names: &ProgramTables<'p, A>,
     making: &mut Making<A>,
     item: &'p Item<A>,
 ) -> Result<(), LowerFault>
@@ -152,7 +151,7 @@ fn lower_item<'p, A: Allocator + Copy>(
 
 /// The parts of a program's code. Where its instructions come from is put into a list of its own.
 fn lower_parts<'p, A: Allocator + Copy>(
-    names: &ProgramNames<'p, A>,
+    names: &ProgramTables<'p, A>,
     origins: &mut Vec<Origin, A>,
 ) -> Result<Parts<A>, LowerFault>
     ensures code { IfOk result (λ parts. code_of parts ≡ picked_code (program_in names.now)) }
@@ -208,7 +207,7 @@ pub fn lower<A: Allocator + Copy>(alloc: A, accepted: &Accepted<A>) -> Result<Co
         Some(at) => return Err(LowerFault::NestedTooDeep(at)),
         None => {}
     }
-    let names = match names(alloc, typed) {
+    let names = match tables(alloc, typed) {
         Ok(names) => names,
         Err(_) => return Err(LowerFault::OutOfMemory),
     };

@@ -18,7 +18,8 @@ ghost use Rattle.selection.specs.Statements.{print_written, tested_back, for_tes
 ghost use Rattle.selection.specs.Statements.{return_written, transaction_code, stmt_code, stmts_code};
 ghost use Rattle.lower_exprs.specs.Lists.{lists_of};
 ghost use Rattle.lower_exprs.specs.Fragments.{Adds, AddsTest, AddsWritten, of_written};
-ghost use Rattle.lower_exprs.specs.Views.{program_in, scope_in};
+ghost use Rattle.lower_exprs.specs.Views.{scope_in};
+ghost use Rattle.program_tables.specs.Views.{program_in};
 
 use crate::origins::{note_first, note_stmt};
 use crate::print::put_pieces;
@@ -27,15 +28,16 @@ use lower_exprs::draft::{put_back, put_test};
 use lower_exprs::expr::{lower_all, lower_as, lower_condition};
 use lower_exprs::fault::LowerFailure;
 use lower_exprs::lists::Lists;
-use lower_exprs::origins::{note, span_of};
-use lower_exprs::program::ProgramNames;
+use lower_exprs::origins::note;
 use lower_exprs::put::{after, append, put};
 use lower_exprs::scope::LocalRegisters;
 use lower_exprs::simple::{lower_declarators, lower_simple, lower_start};
+use program_tables::ProgramTables;
 use selection::draft::Draft;
 use selection::locations::{ConditionRegister, Exits};
 use smallvec::SmallVec;
 use std::alloc::{AllocError, Allocator};
+use syntax::spans::span_of;
 use syntax::tree::{Expr, ForHead, Parameter, Simple, Stmt, TransactionKind};
 
 /// Writes so many commits and then an instruction, and gives the place behind them.
@@ -111,7 +113,7 @@ fn looping(exits: Exits, break_to: u32, continue_to: u32) -> Exits
 
 /// A condition behind the locals. It is noted where it stands, of its own instructions and of the jump behind it.
 fn lower_head<A: Allocator + Copy>(
-    names: &ProgramNames<'_, A>,
+    names: &ProgramTables<'_, A>,
     scope: &LocalRegisters<'_, A>,
     lists: &mut Lists<A>,
     drafts: &mut Vec<Draft, A>,
@@ -130,7 +132,7 @@ fn lower_head<A: Allocator + Copy>(
 
 /// A condition, and a jump back where it holds.
 fn lower_back<A: Allocator + Copy>(
-    names: &ProgramNames<'_, A>,
+    names: &ProgramTables<'_, A>,
     scope: &LocalRegisters<'_, A>,
     lists: &mut Lists<A>,
     code: &mut Vec<Instr, A>,
@@ -150,7 +152,7 @@ fn lower_back<A: Allocator + Copy>(
 
 /// An assignment or an expression behind the locals.
 fn lower_do<A: Allocator + Copy>(
-    names: &ProgramNames<'_, A>,
+    names: &ProgramTables<'_, A>,
     scope: &LocalRegisters<'_, A>,
     lists: &mut Lists<A>,
     code: &mut Vec<Instr, A>,
@@ -166,7 +168,7 @@ fn lower_do<A: Allocator + Copy>(
 
 /// The test of a `for`; a missing condition always holds.
 fn lower_test<A: Allocator + Copy>(
-    names: &ProgramNames<'_, A>,
+    names: &ProgramTables<'_, A>,
     scope: &LocalRegisters<'_, A>,
     lists: &mut Lists<A>,
     code: &mut Vec<Instr, A>,
@@ -188,7 +190,7 @@ fn lower_test<A: Allocator + Copy>(
 
 /// The step of a `for`.
 fn lower_step<A: Allocator + Copy>(
-    names: &ProgramNames<'_, A>,
+    names: &ProgramTables<'_, A>,
     scope: &LocalRegisters<'_, A>,
     lists: &mut Lists<A>,
     code: &mut Vec<Instr, A>,
@@ -281,7 +283,7 @@ fn put_transaction<A: Allocator>(
 
 /// A print.
 fn lower_print<A: Allocator + Copy>(
-    names: &ProgramNames<'_, A>,
+    names: &ProgramTables<'_, A>,
     scope: &LocalRegisters<'_, A>,
     lists: &mut Lists<A>,
     code: &mut Vec<Instr, A>,
@@ -322,7 +324,7 @@ fn lower_print<A: Allocator + Copy>(
 
 /// A return.
 fn lower_return<A: Allocator + Copy>(
-    names: &ProgramNames<'_, A>,
+    names: &ProgramTables<'_, A>,
     scope: &LocalRegisters<'_, A>,
     lists: &mut Lists<A>,
     code: &mut Vec<Instr, A>,
@@ -348,7 +350,7 @@ fn lower_return<A: Allocator + Copy>(
 /// A statement's instructions; the place behind them. It is noted of its own instructions where it stands.
 #[cycle(lower_stmt)]
 pub(crate) fn lower_stmt<'p, A: Allocator + Copy>(
-    names: &ProgramNames<'p, A>,
+    names: &ProgramTables<'p, A>,
     scope: &mut LocalRegisters<'p, A>,
     lists: &mut Lists<A>,
     code: &mut Vec<Instr, A>,
@@ -369,7 +371,7 @@ pub(crate) fn lower_stmt<'p, A: Allocator + Copy>(
 /// `lower_stmt`, by the statement's kind; what is noted is left to it.
 #[cycle(lower_stmt)]
 fn lower_kind<'p, A: Allocator + Copy>(
-    names: &ProgramNames<'p, A>,
+    names: &ProgramTables<'p, A>,
     scope: &mut LocalRegisters<'p, A>,
     lists: &mut Lists<A>,
     code: &mut Vec<Instr, A>,
@@ -511,7 +513,7 @@ fn lower_kind<'p, A: Allocator + Copy>(
 /// An `if` without `else`; its condition is gathered in `test`, and its branch in `branch`.
 #[cycle(lower_stmt)]
 fn lower_if<'p, A: Allocator + Copy>(
-    names: &ProgramNames<'p, A>,
+    names: &ProgramTables<'p, A>,
     scope: &mut LocalRegisters<'p, A>,
     lists: &mut Lists<A>,
     code: &mut Vec<Instr, A>,
@@ -539,7 +541,7 @@ fn lower_if<'p, A: Allocator + Copy>(
 /// branches are smaller than it.
 #[cycle(lower_stmt)]
 fn lower_if_else<'p, A: Allocator + Copy>(
-    names: &ProgramNames<'p, A>,
+    names: &ProgramTables<'p, A>,
     scope: &mut LocalRegisters<'p, A>,
     lists: &mut Lists<A>,
     code: &mut Vec<Instr, A>,
@@ -574,7 +576,7 @@ fn lower_if_else<'p, A: Allocator + Copy>(
 /// A `while`; its body and its test are gathered in `inner`.
 #[cycle(lower_stmt)]
 fn lower_while<'p, A: Allocator + Copy>(
-    names: &ProgramNames<'p, A>,
+    names: &ProgramTables<'p, A>,
     scope: &mut LocalRegisters<'p, A>,
     lists: &mut Lists<A>,
     code: &mut Vec<Instr, A>,
@@ -601,7 +603,7 @@ fn lower_while<'p, A: Allocator + Copy>(
 /// A `do`; its body and its test are gathered in `inner`.
 #[cycle(lower_stmt)]
 fn lower_do_while<'p, A: Allocator + Copy>(
-    names: &ProgramNames<'p, A>,
+    names: &ProgramTables<'p, A>,
     scope: &mut LocalRegisters<'p, A>,
     lists: &mut Lists<A>,
     code: &mut Vec<Instr, A>,
@@ -629,7 +631,7 @@ fn lower_do_while<'p, A: Allocator + Copy>(
 /// A transaction; its statements are gathered in `inner`.
 #[cycle(lower_stmt)]
 fn lower_transaction<'p, A: Allocator + Copy>(
-    names: &ProgramNames<'p, A>,
+    names: &ProgramTables<'p, A>,
     scope: &mut LocalRegisters<'p, A>,
     lists: &mut Lists<A>,
     code: &mut Vec<Instr, A>,
@@ -657,7 +659,7 @@ fn lower_transaction<'p, A: Allocator + Copy>(
 /// A `for`: its start, jumps, and its body, its step and its test, which are gathered in `inner`.
 #[cycle(lower_stmt)]
 fn lower_for<'p, A: Allocator + Copy>(
-    names: &ProgramNames<'p, A>,
+    names: &ProgramTables<'p, A>,
     scope: &mut LocalRegisters<'p, A>,
     lists: &mut Lists<A>,
     code: &mut Vec<Instr, A>,
@@ -691,7 +693,7 @@ fn lower_for<'p, A: Allocator + Copy>(
 /// A statement whose locals are forgotten behind it.
 #[cycle(lower_stmt)]
 fn lower_scoped<'p, A: Allocator + Copy>(
-    names: &ProgramNames<'p, A>,
+    names: &ProgramTables<'p, A>,
     scope: &mut LocalRegisters<'p, A>,
     lists: &mut Lists<A>,
     code: &mut Vec<Instr, A>,
@@ -712,7 +714,7 @@ fn lower_scoped<'p, A: Allocator + Copy>(
 /// Statements whose locals are forgotten behind them.
 #[cycle(lower_stmt)]
 fn lower_block<'p, A: Allocator + Copy>(
-    names: &ProgramNames<'p, A>,
+    names: &ProgramTables<'p, A>,
     scope: &mut LocalRegisters<'p, A>,
     lists: &mut Lists<A>,
     code: &mut Vec<Instr, A>,
@@ -733,7 +735,7 @@ fn lower_block<'p, A: Allocator + Copy>(
 /// Statements one after another.
 #[cycle(lower_stmt)]
 pub(crate) fn lower_stmts<'p, A: Allocator + Copy>(
-    names: &ProgramNames<'p, A>,
+    names: &ProgramTables<'p, A>,
     scope: &mut LocalRegisters<'p, A>,
     lists: &mut Lists<A>,
     code: &mut Vec<Instr, A>,

@@ -1,6 +1,5 @@
--- look-ups among locals, and in a file
+-- look-ups among locals
 mod Lookup
-pub mod Files
 -- fragments of code one behind the other
 pub mod Adding
 -- expressions by their parts: arguments, values one after another, nodes, and parts of a whole

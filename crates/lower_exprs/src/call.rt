@@ -9,7 +9,7 @@ ghost use Rattle.lower_exprs.specs.Limits.{NeedsMore};
 ghost use Rattle.lower_exprs.specs.Lists.{lists_of};
 ghost use Rattle.lower_exprs.specs.Fragments.{AddsValue};
 ghost use Rattle.lower_exprs.specs.inner.Stretches.{all_in_place};
-ghost use Rattle.lower_exprs.specs.inner.Tables.{callee_in};
+ghost use Rattle.lower_exprs.specs.inner.Callees.{callee_in};
 
 use crate::fault::LowerFailure;
 use crate::lists::Lists;

@@ -16,9 +16,11 @@ ghost use Rattle.selection.specs.inner.Parts.{both_conditions, conditional};
 ghost use Rattle.lower_exprs.specs.Lists.{lists_of};
 ghost use Rattle.lower_exprs.specs.Fragments.{AddsValue, AddsTest, AddsValues};
 ghost use Rattle.lower_exprs.specs.inner.Stretches.{in_place, AddsFirst};
-ghost use Rattle.global_tables.specs.Tables.{shared_in};
-ghost use Rattle.lower_exprs.specs.inner.Tables.{callee_in};
-ghost use Rattle.lower_exprs.specs.Views.{program_in, scope_in};
+ghost use Rattle.program_tables.specs.Entries.{shared_in};
+ghost use Rattle.lower_exprs.specs.inner.Callees.{callee_in};
+ghost use Rattle.lower_exprs.specs.Views.{scope_in};
+ghost use Rattle.program_tables.specs.Views.{program_in};
+ghost use Rattle.syntax.specs.declared.limits.TheConstants.{MOST_CELLS};
 
 use crate::call::put_call;
 use crate::cond::{opposite, zero_test};
@@ -26,10 +28,9 @@ use crate::convert::{constant_in, converts, put_converted};
 use crate::draft::{keep, put_first, turn};
 use crate::fault::LowerFailure;
 use crate::lists::Lists;
-use crate::names::{Callee, callee_of, global};
-use crate::origins::{note, span_of};
+use crate::names::{Callee, callee_of};
+use crate::origins::note;
 use crate::preloaded::{constant_of, constant_word, preloaded_constant};
-use crate::program::ProgramNames;
 use crate::put::{
     above, after, put_answers, put_both, put_chosen, put_compared, put_complemented, put_constant,
     put_in_transaction, put_into, put_negated, put_one, take,
@@ -37,12 +38,13 @@ use crate::put::{
 use crate::scope::LocalRegisters;
 use crate::value_type::value_type;
 use bytecode::Instr;
-use global_tables::Shared;
 use lex::token::{Scalar, Span};
+use program_tables::{ProgramTables, Shared};
 use selection::draft::Draft;
 use selection::locations::{ConditionRegister, ValueRegister};
 use smallvec::SmallVec;
 use std::alloc::{AllocError, Allocator};
+use syntax::spans::span_of;
 use syntax::tree::{BinaryOp, Expr, LogicalOp, Parameter, UnaryOp};
 use syntax::types::{common_type, operand_type};
 
@@ -69,7 +71,7 @@ fn put_read<A: Allocator + Copy>(
     from: u32,
     into: usize,
 ) -> Result<ValueRegister, LowerFailure>
-    requires { g.cell ≤ 4096 }
+    requires { g.cell ≤ MOST_CELLS }
     ensures { AddsValue (one (instr.Read into g.entry.cell) from into g.entry.global.now.ty (lists_of lists.old))
         code.old code.new lists.new result }
 {
@@ -85,7 +87,7 @@ fn put_read<A: Allocator + Copy>(
 
 /// A variable's value.
 fn lower_variable<A: Allocator + Copy>(
-    names: &ProgramNames<'_, A>,
+    names: &ProgramTables<'_, A>,
     scope: &LocalRegisters<'_, A>,
     lists: &mut Lists<A>,
     code: &mut Vec<Instr, A>,
@@ -106,7 +108,7 @@ fn lower_variable<A: Allocator + Copy>(
                 to: from,
             })
         }
-        None => match global(names, x) {
+        None => match names.global(x) {
             Some(g) => put_read(lists, code, g, from, into),
             None => put_constant(lists, code, 0, Scalar::Int, from, into),
         },
@@ -121,7 +123,7 @@ fn put_read_at<A: Allocator + Copy>(
     index: ValueRegister,
     into: usize,
 ) -> Result<ValueRegister, LowerFailure>
-    requires { g.cell + Names.cells (global_of g.global.now) ≤ 4096 }
+    requires { g.cell + Names.cells (global_of g.global.now) ≤ MOST_CELLS }
     ensures { AddsValue (element (Some (shared_in g.entry)) (in_place index (lists_of lists.old)) index.to into
         (lists_of lists.old)) code.old code.new lists.new result }
 {
@@ -148,7 +150,7 @@ fn add_operand<A: Allocator>(
 /// written. It is noted of its own instructions where it stands.
 #[cycle(lower_expr)]
 pub fn lower_expr<A: Allocator + Copy>(
-    names: &ProgramNames<'_, A>,
+    names: &ProgramTables<'_, A>,
     scope: &LocalRegisters<'_, A>,
     lists: &mut Lists<A>,
     code: &mut Vec<Instr, A>,
@@ -168,7 +170,7 @@ pub fn lower_expr<A: Allocator + Copy>(
 /// `lower_expr`, of whose instructions only those are noted that its parts put.
 #[cycle(lower_expr)]
 fn lower_node<A: Allocator + Copy>(
-    names: &ProgramNames<'_, A>,
+    names: &ProgramTables<'_, A>,
     scope: &LocalRegisters<'_, A>,
     lists: &mut Lists<A>,
     code: &mut Vec<Instr, A>,
@@ -183,7 +185,7 @@ fn lower_node<A: Allocator + Copy>(
     match e {
         Expr::Variable(x) => lower_variable(names, scope, lists, code, x.text.as_str(), from, into),
         Expr::Constant(value, ty, _) => put_number(lists, code, *value, *ty, from, into),
-        Expr::Element(x, index, _) => match global(names, x.text.as_str()) {
+        Expr::Element(x, index, _) => match names.global(x.text.as_str()) {
             Some(g) => {
                 let i = lower_expr(names, scope, lists, code, index.get(), from, free, free)?;
                 put_read_at(lists, code, g, i, into)
@@ -305,7 +307,7 @@ fn lower_node<A: Allocator + Copy>(
 /// An expression's value in the type that is due: it is converted, and a constant is set as what it is converted to.
 #[cycle(lower_expr)]
 pub fn lower_as<A: Allocator + Copy>(
-    names: &ProgramNames<'_, A>,
+    names: &ProgramTables<'_, A>,
     scope: &LocalRegisters<'_, A>,
     lists: &mut Lists<A>,
     code: &mut Vec<Instr, A>,
@@ -333,7 +335,7 @@ pub fn lower_as<A: Allocator + Copy>(
 /// tells, so that a long sum is not walked again at each of its operators.
 #[cycle(lower_expr)]
 fn lower_left<A: Allocator + Copy>(
-    names: &ProgramNames<'_, A>,
+    names: &ProgramTables<'_, A>,
     scope: &LocalRegisters<'_, A>,
     lists: &mut Lists<A>,
     code: &mut Vec<Instr, A>,
@@ -363,7 +365,7 @@ fn lower_left<A: Allocator + Copy>(
 /// The right side of an operator in the type that is due: it is computed, or it is a constant that is preloaded.
 #[cycle(lower_expr)]
 pub(crate) fn lower_operand<A: Allocator + Copy>(
-    names: &ProgramNames<'_, A>,
+    names: &ProgramTables<'_, A>,
     scope: &LocalRegisters<'_, A>,
     lists: &mut Lists<A>,
     code: &mut Vec<Instr, A>,
@@ -384,7 +386,7 @@ pub(crate) fn lower_operand<A: Allocator + Copy>(
 /// A call; its arguments' registers are gathered in `registers`.
 #[cycle(lower_expr)]
 fn lower_call<A: Allocator + Copy>(
-    names: &ProgramNames<'_, A>,
+    names: &ProgramTables<'_, A>,
     scope: &LocalRegisters<'_, A>,
     lists: &mut Lists<A>,
     code: &mut Vec<Instr, A>,
@@ -419,7 +421,7 @@ fn lower_call<A: Allocator + Copy>(
 /// smaller than `e`.
 #[cycle(lower_expr)]
 fn lower_logical<A: Allocator + Copy>(
-    names: &ProgramNames<'_, A>,
+    names: &ProgramTables<'_, A>,
     scope: &LocalRegisters<'_, A>,
     lists: &mut Lists<A>,
     code: &mut Vec<Instr, A>,
@@ -451,7 +453,7 @@ fn lower_logical<A: Allocator + Copy>(
 /// and `at`: the parts are smaller than `e`.
 #[cycle(lower_expr)]
 fn lower_conditional<A: Allocator + Copy>(
-    names: &ProgramNames<'_, A>,
+    names: &ProgramTables<'_, A>,
     scope: &LocalRegisters<'_, A>,
     lists: &mut Lists<A>,
     code: &mut Vec<Instr, A>,
@@ -490,7 +492,7 @@ fn lower_conditional<A: Allocator + Copy>(
 /// An expression's value in this type and in this very register.
 #[cycle(lower_expr)]
 fn lower_into<A: Allocator + Copy>(
-    names: &ProgramNames<'_, A>,
+    names: &ProgramTables<'_, A>,
     scope: &LocalRegisters<'_, A>,
     lists: &mut Lists<A>,
     code: &mut Vec<Instr, A>,
@@ -512,7 +514,7 @@ fn lower_into<A: Allocator + Copy>(
 /// A value that is computed in a transaction of its own, which begins with this keyword.
 #[cycle(lower_expr)]
 fn lower_in_transaction<A: Allocator + Copy>(
-    names: &ProgramNames<'_, A>,
+    names: &ProgramTables<'_, A>,
     scope: &LocalRegisters<'_, A>,
     lists: &mut Lists<A>,
     code: &mut Vec<Instr, A>,
@@ -537,7 +539,7 @@ fn lower_in_transaction<A: Allocator + Copy>(
 /// A condition that is tested by its value.
 #[cycle(lower_expr)]
 fn lower_value<A: Allocator + Copy>(
-    names: &ProgramNames<'_, A>,
+    names: &ProgramTables<'_, A>,
     scope: &LocalRegisters<'_, A>,
     lists: &mut Lists<A>,
     drafts: &mut Vec<Draft, A>,
@@ -562,7 +564,7 @@ fn lower_value<A: Allocator + Copy>(
 /// The opposite of a condition.
 #[cycle(lower_expr)]
 fn lower_opposite<A: Allocator + Copy>(
-    names: &ProgramNames<'_, A>,
+    names: &ProgramTables<'_, A>,
     scope: &LocalRegisters<'_, A>,
     lists: &mut Lists<A>,
     drafts: &mut Vec<Draft, A>,
@@ -583,7 +585,7 @@ fn lower_opposite<A: Allocator + Copy>(
 /// The first condition of `&&` and `||` and its jump; the place behind.
 #[cycle(lower_expr)]
 fn lower_first<A: Allocator + Copy>(
-    names: &ProgramNames<'_, A>,
+    names: &ProgramTables<'_, A>,
     scope: &LocalRegisters<'_, A>,
     lists: &mut Lists<A>,
     drafts: &mut Vec<Draft, A>,
@@ -604,7 +606,7 @@ fn lower_first<A: Allocator + Copy>(
 /// A condition, up to the jump that it ends in.
 #[cycle(lower_expr)]
 pub fn lower_condition<A: Allocator + Copy>(
-    names: &ProgramNames<'_, A>,
+    names: &ProgramTables<'_, A>,
     scope: &LocalRegisters<'_, A>,
     lists: &mut Lists<A>,
     drafts: &mut Vec<Draft, A>,
@@ -654,7 +656,7 @@ pub fn lower_condition<A: Allocator + Copy>(
 /// One of several values, in the type of the parameter of its number, if there is one.
 #[cycle(lower_expr)]
 fn lower_argument<A: Allocator + Copy>(
-    names: &ProgramNames<'_, A>,
+    names: &ProgramTables<'_, A>,
     scope: &LocalRegisters<'_, A>,
     lists: &mut Lists<A>,
     code: &mut Vec<Instr, A>,
@@ -680,7 +682,7 @@ fn lower_argument<A: Allocator + Copy>(
 /// `registers`; the place behind them.
 #[cycle(lower_expr)]
 pub fn lower_all<A: Allocator + Copy>(
-    names: &ProgramNames<'_, A>,
+    names: &ProgramTables<'_, A>,
     scope: &LocalRegisters<'_, A>,
     lists: &mut Lists<A>,
     code: &mut Vec<Instr, A>,

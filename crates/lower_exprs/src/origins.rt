@@ -7,7 +7,6 @@ use crate::lists::Lists;
 use bytecode::Origin;
 use lex::token::Span;
 use std::alloc::{AllocError, Allocator};
-use syntax::tree::{Expr, Simple};
 
 /// So many entries, those that are missing with this one.
 fn fill<A: Allocator>(
@@ -28,32 +27,4 @@ pub fn note<A: Allocator>(lists: &mut Lists<A>, to: u32, at: Span) -> Result<(),
     ensures { lists_of lists.new ≡ lists_of lists.old }
 {
     fill(&mut lists.origins, to as usize, Origin::new(at))
-}
-
-/// Where an expression stands.
-pub fn span_of<A: Allocator>(e: &Expr<A>) -> Span {
-    match e {
-        Expr::Variable(x) => x.span,
-        Expr::Constant(_, _, at)
-        | Expr::Element(_, _, at)
-        | Expr::Call(_, _, at)
-        | Expr::Parenthesized(_, at)
-        | Expr::Cast(_, _, at)
-        | Expr::Unary(_, _, at)
-        | Expr::Binary(_, _, _, at)
-        | Expr::Logical(_, _, _, at)
-        | Expr::Conditional(_, _, _, at)
-        | Expr::InTransaction(_, _, _, at) => *at,
-    }
-}
-
-/// Where an assignment or an expression stands; of `x++` the `x`.
-pub fn span_of_simple<A: Allocator>(s: &Simple<A>) -> Span {
-    match s {
-        Simple::Evaluate(e) | Simple::Adjust(e, _) => span_of(e),
-        Simple::Assign(to, _, e) => Span {
-            start: span_of(to).start,
-            end: span_of(e).end,
-        },
-    }
 }

@@ -1,4 +1,4 @@
-//! Single instructions: which one an operator is, and how one is put behind the others.
+//! Single instructions: how one is put behind the others.
 
 ghost use Rattle.std.specs.Prelude.{◌≡◌, [], ◌∷◌, ◌++◌, ◌<◌, ◌≤◌, ◌+◌, OnOk, IfOk, IfErr};
 ghost use Rattle.selection.specs.Lists.{Lists as Plain, with_register};
@@ -132,85 +132,6 @@ pub(crate) fn put_into<A: Allocator>(
     )?)
 }
 
-fn computing_signed(op: BinaryOp, d: u16, a: u16, b: u16) -> Instr
-    ensures { result ≡ expressions.computing op (Scalar.Int) d a b }
-{
-    match op {
-        BinaryOp::Add => Instr::AddSigned(d, a, b),
-        BinaryOp::Subtract => Instr::SubtractSigned(d, a, b),
-        BinaryOp::Multiply => Instr::MultiplySigned(d, a, b),
-        BinaryOp::Divide => Instr::DivideSigned(d, a, b),
-        BinaryOp::Remainder => Instr::RemainderSigned(d, a, b),
-        BinaryOp::ShiftLeft => Instr::ShiftLeftSigned(d, a, b),
-        BinaryOp::ShiftRight => Instr::ShiftRightSigned(d, a, b),
-        BinaryOp::And => Instr::And(d, a, b),
-        BinaryOp::Or => Instr::Or(d, a, b),
-        BinaryOp::Xor => Instr::Xor(d, a, b),
-        BinaryOp::Equal => Instr::Equal(d, a, b),
-        BinaryOp::NotEqual => Instr::NotEqual(d, a, b),
-        BinaryOp::Less => Instr::LessSigned(d, a, b),
-        BinaryOp::Greater => Instr::LessSigned(d, b, a),
-        BinaryOp::LessEqual => Instr::LessEqualSigned(d, a, b),
-        BinaryOp::GreaterEqual => Instr::LessEqualSigned(d, b, a),
-    }
-}
-
-fn computing_unsigned(op: BinaryOp, d: u16, a: u16, b: u16) -> Instr
-    ensures { result ≡ expressions.computing op (Scalar.Unsigned) d a b }
-{
-    match op {
-        BinaryOp::Add => Instr::AddUnsigned(d, a, b),
-        BinaryOp::Subtract => Instr::SubtractUnsigned(d, a, b),
-        BinaryOp::Multiply => Instr::MultiplyUnsigned(d, a, b),
-        BinaryOp::Divide => Instr::DivideUnsigned(d, a, b),
-        BinaryOp::Remainder => Instr::RemainderUnsigned(d, a, b),
-        BinaryOp::ShiftLeft => Instr::ShiftLeftUnsigned(d, a, b),
-        BinaryOp::ShiftRight => Instr::ShiftRightUnsigned(d, a, b),
-        BinaryOp::And => Instr::And(d, a, b),
-        BinaryOp::Or => Instr::Or(d, a, b),
-        BinaryOp::Xor => Instr::Xor(d, a, b),
-        BinaryOp::Equal => Instr::Equal(d, a, b),
-        BinaryOp::NotEqual => Instr::NotEqual(d, a, b),
-        BinaryOp::Less => Instr::LessUnsigned(d, a, b),
-        BinaryOp::Greater => Instr::LessUnsigned(d, b, a),
-        BinaryOp::LessEqual => Instr::LessEqualUnsigned(d, a, b),
-        BinaryOp::GreaterEqual => Instr::LessEqualUnsigned(d, b, a),
-    }
-}
-
-fn computing_long(op: BinaryOp, d: u16, a: u16, b: u16) -> Instr
-    ensures { result ≡ expressions.computing op (Scalar.LongLong) d a b }
-{
-    match op {
-        BinaryOp::Add => Instr::AddLong(d, a, b),
-        BinaryOp::Subtract => Instr::SubtractLong(d, a, b),
-        BinaryOp::Multiply => Instr::MultiplyLong(d, a, b),
-        BinaryOp::Divide => Instr::DivideLong(d, a, b),
-        BinaryOp::Remainder => Instr::RemainderLong(d, a, b),
-        BinaryOp::ShiftLeft => Instr::ShiftLeftLong(d, a, b),
-        BinaryOp::ShiftRight => Instr::ShiftRightLong(d, a, b),
-        BinaryOp::And => Instr::And(d, a, b),
-        BinaryOp::Or => Instr::Or(d, a, b),
-        BinaryOp::Xor => Instr::Xor(d, a, b),
-        BinaryOp::Equal => Instr::Equal(d, a, b),
-        BinaryOp::NotEqual => Instr::NotEqual(d, a, b),
-        BinaryOp::Less => Instr::LessLong(d, a, b),
-        BinaryOp::Greater => Instr::LessLong(d, b, a),
-        BinaryOp::LessEqual => Instr::LessEqualLong(d, a, b),
-        BinaryOp::GreaterEqual => Instr::LessEqualLong(d, b, a),
-    }
-}
-
-fn computing(op: BinaryOp, ty: Scalar, d: u16, a: u16, b: u16) -> Instr
-    ensures { result ≡ expressions.computing op ty d a b }
-{
-    match ty {
-        Scalar::Int => computing_signed(op, d, a, b),
-        Scalar::Unsigned => computing_unsigned(op, d, a, b),
-        Scalar::LongLong => computing_long(op, d, a, b),
-    }
-}
-
 /// An operator on two values, whose instructions stand there; it computes in this type.
 pub(crate) fn put_both<A: Allocator>(
     lists: &mut Lists<A>,
@@ -225,7 +146,7 @@ pub(crate) fn put_both<A: Allocator>(
         into) code.old code.new lists.new result }
 {
     let register = take(lists, into)?;
-    let instr = computing(op, ty, register, a.register, b.register);
+    let instr = Instr::Compute(op, ty, register, a.register, b.register);
     Ok(put_one(code, instr, b.to, register, result_type(op, ty))?)
 }
 
@@ -302,7 +223,14 @@ pub(crate) fn put_compared<A: Allocator>(
     let zero_in = take(lists, above(free, a.register))?;
     put(code, Instr::Constant(zero_in, 0))?;
     let register = take(lists, into)?;
-    put(code, Instr::Equal(register, a.register, zero_in))?;
+    let instr = Instr::Compute(
+        BinaryOp::Equal,
+        Scalar::Unsigned,
+        register,
+        a.register,
+        zero_in,
+    );
+    put(code, instr)?;
     let to = after(a.to, 2)?;
     Ok(ValueRegister {
         register,

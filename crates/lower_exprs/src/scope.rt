@@ -5,8 +5,8 @@ ghost use Rattle.syntax.specs.Names as Names;
 ghost use Rattle.lower_spec.specs.Statements.{with_local};
 ghost use Rattle.lower_exprs.specs.Views.{scope_in};
 
-use crate::program::ProgramNames;
 use lex::token::Scalar;
+use program_tables::ProgramTables;
 use std::alloc::{AllocError, Allocator};
 
 /// The locals that are known at a point, in order of declaration: a local's number is its register.
@@ -17,11 +17,11 @@ pub struct LocalRegisters<'p, A: Allocator> {
 
 impl<'p, A: Allocator + Copy> LocalRegisters<'p, A> {
     /// No locals of a program. Takes no memory.
-    pub fn new(names: &ProgramNames<'p, A>) -> LocalRegisters<'p, A>
+    pub fn new(names: &ProgramTables<'p, A>) -> LocalRegisters<'p, A>
         ensures { scope_in result ≡ [] }
     {
         LocalRegisters {
-            known: name_tables::Scope::new(names.alloc, names.key),
+            known: name_tables::Scope::new(names.alloc, names.unit.key),
         }
     }
 

@@ -16,26 +16,27 @@ ghost use Rattle.selection.specs.Simples.{declarator_written, declared_written, 
 ghost use Rattle.lower_exprs.specs.Lists.{lists_of};
 ghost use Rattle.lower_exprs.specs.Fragments.{Adds, AddsValue, AddsWritten, of_written};
 ghost use Rattle.lower_exprs.specs.inner.Stretches.{in_place, of_aim, Aims};
-ghost use Rattle.global_tables.specs.Tables.{shared_in};
-ghost use Rattle.lower_exprs.specs.Views.{program_in, scope_in};
+ghost use Rattle.program_tables.specs.Entries.{shared_in};
+ghost use Rattle.lower_exprs.specs.Views.{scope_in};
+ghost use Rattle.program_tables.specs.Views.{program_in};
+ghost use Rattle.syntax.specs.declared.limits.TheConstants.{MOST_CELLS};
 
 use crate::aim::Aim;
 use crate::convert::{constant_in, put_converted, put_widened};
 use crate::expr::{lower_expr, lower_operand};
 use crate::fault::LowerFailure;
 use crate::lists::Lists;
-use crate::names::global;
-use crate::origins::{note, span_of, span_of_simple};
+use crate::origins::note;
 use crate::preloaded::{constant_of, preloaded};
-use crate::program::ProgramNames;
 use crate::put::{above, after, put, put_both, put_constant, put_one, take};
 use crate::scope::LocalRegisters;
 use crate::value_type::value_type;
 use bytecode::Instr;
-use global_tables::Shared;
 use lex::token::{Scalar, Span};
+use program_tables::{ProgramTables, Shared};
 use selection::locations::{AssignmentTarget, ValueRegister};
 use std::alloc::Allocator;
+use syntax::spans::{span_of, span_of_simple};
 use syntax::tree::{BinaryOp, Declarator, Expr, Simple, Start};
 use syntax::types::{operand_type, result_type};
 
@@ -47,7 +48,7 @@ fn aim_at(target: AssignmentTarget, to: u32) -> Aim
 
 /// Where an assignment to a variable goes.
 fn aim_variable<A: Allocator + Copy>(
-    names: &ProgramNames<'_, A>,
+    names: &ProgramTables<'_, A>,
     scope: &LocalRegisters<'_, A>,
     lists: &mut Lists<A>,
     x: &str,
@@ -62,7 +63,7 @@ fn aim_variable<A: Allocator + Copy>(
             let register = take(lists, i)?;
             Ok(aim_at(AssignmentTarget::Local(register, ty), from))
         }
-        None => match global(names, x) {
+        None => match names.global(x) {
             Some(g) => Ok(aim_at(AssignmentTarget::Cell(g.cell as u32, g.global.ty), from)),
             None => Ok(aim_at(AssignmentTarget::Nowhere, from)),
         },
@@ -76,7 +77,7 @@ fn put_check<A: Allocator + Copy>(
     g: Shared<'_, A>,
     index: ValueRegister,
 ) -> Result<Aim, LowerFailure>
-    requires { g.cell + Names.cells (global_of g.global.now) ≤ 4096 }
+    requires { g.cell + Names.cells (global_of g.global.now) ≤ MOST_CELLS }
     ensures { (l : Plain) → Adds (of_aim (element_target check (Some (shared_in g.entry)) (in_place index l) index.to
         l)) code.old.items code.new.items l result }
 {
@@ -92,7 +93,7 @@ fn put_check<A: Allocator + Copy>(
 
 /// Where an assignment goes, and it is noted of the test of an index where the element stands.
 fn aim<A: Allocator + Copy>(
-    names: &ProgramNames<'_, A>,
+    names: &ProgramTables<'_, A>,
     scope: &LocalRegisters<'_, A>,
     lists: &mut Lists<A>,
     code: &mut Vec<Instr, A>,
@@ -111,7 +112,7 @@ fn aim<A: Allocator + Copy>(
 
 /// Where an assignment goes.
 fn find_aim<A: Allocator + Copy>(
-    names: &ProgramNames<'_, A>,
+    names: &ProgramTables<'_, A>,
     scope: &LocalRegisters<'_, A>,
     lists: &mut Lists<A>,
     code: &mut Vec<Instr, A>,
@@ -125,7 +126,7 @@ fn find_aim<A: Allocator + Copy>(
 {
     match e {
         Expr::Variable(x) => aim_variable(names, scope, lists, x.text.as_str(), from),
-        Expr::Element(x, index, _) => match global(names, x.text.as_str()) {
+        Expr::Element(x, index, _) => match names.global(x.text.as_str()) {
             Some(g) => {
                 let i = lower_expr(names, scope, lists, code, index.get(), from, free, free)?;
                 put_check(code, check, g, i)
@@ -267,7 +268,7 @@ fn put_fitting<A: Allocator>(
 
 /// An expression's value on its way to a target.
 fn lower_fitting<A: Allocator + Copy>(
-    names: &ProgramNames<'_, A>,
+    names: &ProgramTables<'_, A>,
     scope: &LocalRegisters<'_, A>,
     lists: &mut Lists<A>,
     code: &mut Vec<Instr, A>,
@@ -295,7 +296,7 @@ fn lower_fitting<A: Allocator + Copy>(
 
 /// `to = value`
 fn lower_assign<A: Allocator + Copy>(
-    names: &ProgramNames<'_, A>,
+    names: &ProgramTables<'_, A>,
     scope: &LocalRegisters<'_, A>,
     lists: &mut Lists<A>,
     code: &mut Vec<Instr, A>,
@@ -335,7 +336,7 @@ fn lower_one<A: Allocator>(
 
 /// The type of the right side of an operator.
 fn type_or_int<A: Allocator + Copy>(
-    names: &ProgramNames<'_, A>,
+    names: &ProgramTables<'_, A>,
     scope: &LocalRegisters<'_, A>,
     by: Option<&Expr<A>>,
 ) -> Scalar
@@ -350,7 +351,7 @@ fn type_or_int<A: Allocator + Copy>(
 
 /// The right side of an operator in this type: a value, or else the 1 that is added or subtracted.
 fn lower_by<A: Allocator + Copy>(
-    names: &ProgramNames<'_, A>,
+    names: &ProgramTables<'_, A>,
     scope: &LocalRegisters<'_, A>,
     lists: &mut Lists<A>,
     code: &mut Vec<Instr, A>,
@@ -371,7 +372,7 @@ fn lower_by<A: Allocator + Copy>(
 
 /// The old value, another one, and the operator on both, as it goes to the target, which stands there in the source.
 fn lower_changed<'e, A: Allocator + Copy>(
-    names: &ProgramNames<'_, A>,
+    names: &ProgramTables<'_, A>,
     scope: &LocalRegisters<'_, A>,
     lists: &mut Lists<A>,
     code: &mut Vec<Instr, A>,
@@ -401,7 +402,7 @@ fn lower_changed<'e, A: Allocator + Copy>(
 
 /// `to op= by`; with no `by`, `to++` or `to--`
 fn lower_adjust<'e, A: Allocator + Copy>(
-    names: &ProgramNames<'_, A>,
+    names: &ProgramTables<'_, A>,
     scope: &LocalRegisters<'_, A>,
     lists: &mut Lists<A>,
     code: &mut Vec<Instr, A>,
@@ -426,7 +427,7 @@ fn lower_adjust<'e, A: Allocator + Copy>(
 
 /// An expression that stands as a statement, or an assignment. It is noted of its own instructions where it stands.
 pub fn lower_simple<A: Allocator + Copy>(
-    names: &ProgramNames<'_, A>,
+    names: &ProgramTables<'_, A>,
     scope: &LocalRegisters<'_, A>,
     lists: &mut Lists<A>,
     code: &mut Vec<Instr, A>,
@@ -444,7 +445,7 @@ pub fn lower_simple<A: Allocator + Copy>(
 
 /// `lower_simple`, of whose instructions only those are noted that its parts put.
 fn lower_effect<A: Allocator + Copy>(
-    names: &ProgramNames<'_, A>,
+    names: &ProgramTables<'_, A>,
     scope: &LocalRegisters<'_, A>,
     lists: &mut Lists<A>,
     code: &mut Vec<Instr, A>,
@@ -484,7 +485,7 @@ fn lower_effect<A: Allocator + Copy>(
 
 /// The first value of the local in this register.
 fn lower_first<A: Allocator + Copy>(
-    names: &ProgramNames<'_, A>,
+    names: &ProgramTables<'_, A>,
     scope: &LocalRegisters<'_, A>,
     lists: &mut Lists<A>,
     code: &mut Vec<Instr, A>,
@@ -509,7 +510,7 @@ fn lower_first<A: Allocator + Copy>(
 
 /// A declared local is 0 and then has its first value. It is noted of its own instructions where its name stands.
 fn lower_declarator<'p, A: Allocator + Copy>(
-    names: &ProgramNames<'p, A>,
+    names: &ProgramTables<'p, A>,
     scope: &mut LocalRegisters<'p, A>,
     lists: &mut Lists<A>,
     code: &mut Vec<Instr, A>,
@@ -529,7 +530,7 @@ fn lower_declarator<'p, A: Allocator + Copy>(
 
 /// `lower_declarator`, of whose instructions only those are noted that its first value puts.
 fn lower_local<'p, A: Allocator + Copy>(
-    names: &ProgramNames<'p, A>,
+    names: &ProgramTables<'p, A>,
     scope: &mut LocalRegisters<'p, A>,
     lists: &mut Lists<A>,
     code: &mut Vec<Instr, A>,
@@ -551,7 +552,7 @@ fn lower_local<'p, A: Allocator + Copy>(
 
 /// The locals of one declaration, in order.
 pub fn lower_declarators<'p, A: Allocator + Copy>(
-    names: &ProgramNames<'p, A>,
+    names: &ProgramTables<'p, A>,
     scope: &mut LocalRegisters<'p, A>,
     lists: &mut Lists<A>,
     code: &mut Vec<Instr, A>,
@@ -574,7 +575,7 @@ pub fn lower_declarators<'p, A: Allocator + Copy>(
 
 /// What the head of a `for` begins with.
 pub fn lower_start<'p, A: Allocator + Copy>(
-    names: &ProgramNames<'p, A>,
+    names: &ProgramTables<'p, A>,
     scope: &mut LocalRegisters<'p, A>,
     lists: &mut Lists<A>,
     code: &mut Vec<Instr, A>,

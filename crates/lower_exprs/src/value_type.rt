@@ -5,19 +5,20 @@ ghost use Rattle.lex.specs.declared.token.Scalar.{Scalar};
 ghost use Rattle.syntax.specs.Names as Names;
 ghost use Rattle.syntax.specs.Views.{expr_of};
 ghost use Rattle.selection.specs.Expressions.{variable_type, emitted_type};
-ghost use Rattle.lower_exprs.specs.Views.{program_in, scope_in};
+ghost use Rattle.lower_exprs.specs.Views.{scope_in};
+ghost use Rattle.program_tables.specs.Views.{program_in};
 
-use crate::names::{callee_of, global};
-use crate::program::ProgramNames;
+use crate::names::callee_of;
 use crate::scope::LocalRegisters;
 use lex::token::Scalar;
+use program_tables::ProgramTables;
 use std::alloc::Allocator;
 use syntax::tree::{Expr, UnaryOp};
 use syntax::types::{common_type, operand_type, result_type};
 
 /// The type of a variable's value.
 fn type_of_variable<A: Allocator + Copy>(
-    names: &ProgramNames<'_, A>,
+    names: &ProgramTables<'_, A>,
     scope: &LocalRegisters<'_, A>,
     x: &str,
 ) -> Scalar
@@ -26,7 +27,7 @@ fn type_of_variable<A: Allocator + Copy>(
 {
     match scope.newest(x) {
         Some((_, ty)) => ty,
-        None => match global(names, x) {
+        None => match names.global(x) {
             Some(g) => g.global.ty,
             None => Scalar::Int,
         },
@@ -36,7 +37,7 @@ fn type_of_variable<A: Allocator + Copy>(
 /// The type of an expression's value.
 #[cycle(value_type)]
 pub(crate) fn value_type<A: Allocator + Copy>(
-    names: &ProgramNames<'_, A>,
+    names: &ProgramTables<'_, A>,
     scope: &LocalRegisters<'_, A>,
     e: &Expr<A>,
 ) -> Scalar
@@ -45,7 +46,7 @@ pub(crate) fn value_type<A: Allocator + Copy>(
     match e {
         Expr::Variable(x) => type_of_variable(names, scope, x.text.as_str()),
         Expr::Constant(_, ty, _) => *ty,
-        Expr::Element(x, _, _) => match global(names, x.text.as_str()) {
+        Expr::Element(x, _, _) => match names.global(x.text.as_str()) {
             Some(g) => g.global.ty,
             None => Scalar::Int,
         },

@@ -31,8 +31,8 @@ use Rattle.std.specs.Prelude.{bytes_eq, neg_ℤ}
 use Rattle.syntax.specs.Numbers.{fit_result}
 use Rattle.syntax.proofs.words.Words.{fitted_below, narrows, truth_below, word_below}
 use Rattle.bytecode.specs.Effects.{Effect}
-use Rattle.bytecode.specs.Code.{Code, Configuration, Frame, Instr, effect, effect_of, or_traps, setting}
-use Rattle.lower_spec.specs.Expressions.{ValueTransactionCode, LocalScope, IsLike, InstructionAt, LeadsTo, Branching, MayTake, constant_in, computing, complementing, argument_order, Layout, GivenBy, Converts, DueCode, TypedCode, HandedCode, WordCode, OperandCode, VariableCode, ElementAt, Branches, BothHold, EitherHolds, ComparedWithZero, TruthCode, BranchCode, ConditionalCode, types_left, ExprCode, OwnTests, ArgsCode, CondCode}
+use Rattle.bytecode.specs.Code.{Code, Configuration, Frame, Instr, computing, effect, effect_of, or_traps, setting}
+use Rattle.lower_spec.specs.Expressions.{ValueTransactionCode, LocalScope, IsLike, InstructionAt, LeadsTo, Branching, MayTake, constant_in, complementing, argument_order, Layout, GivenBy, Converts, DueCode, TypedCode, HandedCode, WordCode, OperandCode, VariableCode, ElementAt, Branches, BothHold, EitherHolds, ComparedWithZero, TruthCode, BranchCode, ConditionalCode, types_left, ExprCode, OwnTests, ArgsCode, CondCode}
 use Rattle.lower_spec.proofs.Locals.{word_typed, type_like, KnownLocal, newest_known}
 use Rattle.lower_spec.proofs.Conversions.{unconverted, truth_under, truth_converted, zero_in, zero_preserved, operated_below}
 use Rattle.lower_spec.proofs.Agreement.{Agrees, astray, same, fewer}

@@ -8,8 +8,7 @@ use Rattle.lex.specs.declared.token.Scalar.{Scalar}
 use Rattle.lex.specs.declared.token.Scalar.TheVariants.{Int, Unsigned, LongLong}
 use Rattle.syntax.specs.declared.tree.UnaryOp.TheVariants.{Negate, Keep, Not, Complement}
 use Rattle.syntax.specs.declared.tree.BinaryOp.{BinaryOp}
-use Rattle.syntax.specs.declared.tree.BinaryOp.TheVariants.{And, Or, Xor, Equal, NotEqual, Less, Greater, LessEqual}
-use Rattle.syntax.specs.declared.tree.BinaryOp.TheVariants.{GreaterEqual}
+use Rattle.syntax.specs.declared.tree.BinaryOp.TheVariants.{Equal, NotEqual}
 use Rattle.syntax.specs.declared.tree.LogicalOp.TheVariants.{AndThen, OrElse}
 use Rattle.syntax.specs.Tree.{Expr, Exprs, Variable, Constant, Element, Call, Parenthesized, Cast, Unary, Binary}
 use Rattle.syntax.specs.Tree.{Logical, Conditional, InTransaction, Stmts, Parameter, Function, Program}
@@ -17,7 +16,7 @@ use Rattle.syntax.specs.Numbers.{word_of, number, operand_type, result_type}
 use Rattle.syntax.specs.Names.{Local, newest, global_of, cells, GlobalCells, definition_of}
 use Rattle.syntax.specs.Types.{type_of, running_scope}
 use Rattle.syntax.specs.Laws.{shape}
-use Rattle.bytecode.specs.Code.{Instr, Code, FunctionCode}
+use Rattle.bytecode.specs.Code.{Instr, Code, FunctionCode, computing}
 
 -- the locals known at a point, by name and type; their words say nothing
 abbrev pub LocalScope : Type 0
@@ -50,18 +49,6 @@ Branching = (from true_exit false_exit free : ℕ) → Type 0
 abbrev pub MayTake : Option ℕ → (free r : ℕ) → Type 0
 MayTake None free r = free ≤ r
 MayTake (Some home) free r = (free ≤ r) ⊎ (r ≡ home)
-
--- the instruction of an operator: one that asks for more is the other way round, and one that looks at the words alone
--- stands as that of unsigned operands
-abbrev pub computing : BinaryOp → Scalar → (d a b : ℕ) → Instr
-computing Greater t d a b = Instr.Compute Less t d b a
-computing GreaterEqual t d a b = Instr.Compute LessEqual t d b a
-computing And t d a b = Instr.Compute And Unsigned d a b
-computing Or t d a b = Instr.Compute Or Unsigned d a b
-computing Xor t d a b = Instr.Compute Xor Unsigned d a b
-computing Equal t d a b = Instr.Compute Equal Unsigned d a b
-computing NotEqual t d a b = Instr.Compute NotEqual Unsigned d a b
-computing op t d a b = Instr.Compute op t d a b
 
 -- the instruction of a complement: of narrow types it is that of unsigned operands
 abbrev pub complementing : Scalar → (d a : ℕ) → Instr

@@ -1,5 +1,5 @@
 -- A thread names cells of the memory alone.
-use Rattle.std.specs.Prelude.{◌≡◌, ◌<◌, ℕ, List, Option, None, Some}
+use Rattle.std.specs.Prelude.{◌≡◌, ◌<◌, ◌%◌, ℕ, List, Option, None, Some}
 use Rattle.std.specs.List.{slice_get, AllByRecursion}
 use Rattle.bytecode.specs.Effects.{Effect}
 use Rattle.norec_core.specs.declared.step.Access.{Access}
@@ -30,6 +30,15 @@ AccessFits cells (LoadWord ad) = ad < cells
 AccessFits cells (Swap from) = Unit {0}
 AccessFits cells (StoreWord ad v) = ad < cells
 AccessFits cells (StoreLock n) = Unit {0}
+
+-- the access names a cell, or swaps from an even value, which can be followed
+abbrev pub IsMakeable : ℕ → Access → Type 0
+IsMakeable cells Local = Unit {0}
+IsMakeable cells LoadLock = Unit {0}
+IsMakeable cells (LoadWord a) = a < cells
+IsMakeable cells (Swap from) = from % 2 ≡ 0
+IsMakeable cells (StoreWord a v) = a < cells
+IsMakeable cells (StoreLock n) = Unit {0}
 
 -- each attempt's logs name cells, and so does each thread's next access
 abbrev pub NamesCells : {C : Type 0} → (C → Effect C) → ℕ → World C → Type 0

@@ -18,3 +18,8 @@ pub fn assert_that(rt: &impl Abort, holds: bool) {
 pub fn assert_none(rt: &impl Abort, other: Option<&str>) {
     assert_eq!(rt; other, None);
 }
+
+/// Asserts that no row of a table is otherwise than it should be: this is the number, from 0, of the first one that is.
+pub fn assert_no_row(rt: &impl Abort, wrong: Option<usize>) {
+    assert_eq!(rt; wrong, None);
+}

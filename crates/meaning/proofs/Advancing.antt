@@ -22,9 +22,10 @@ use Rattle.meaning.specs.declared.standing.Point.{Point}
 use Rattle.meaning.specs.declared.standing.Observed.{Observed}
 use Rattle.meaning.specs.declared.standing.StandingThread.{StandingThread}
 use Rattle.meaning.specs.declared.standing.StoppedThread.{StoppedThread}
-use Rattle.meaning.specs.declared.program.ProgramTables.{ProgramTables}
+use Rattle.program_tables.specs.declared.program.ProgramTables.{ProgramTables}
 use Rattle.meaning.specs.declared.source_thread.Local.{Local as OwnLocal}
-use Rattle.meaning.specs.inner.SourceThread.{completion_of, items_in, local_in, program_in}
+use Rattle.meaning.specs.inner.SourceThread.{completion_of, items_in, local_in}
+use Rattle.program_tables.specs.Views.{program_in}
 use Rattle.meaning.specs.Frames.{StateExtension, context_framed, extended_state}
 use Rattle.meaning.specs.inner.Calls.{Begins, begin_call}
 use Rattle.meaning.specs.inner.Going.{Follow, IsStep, call_left, follows, gone_on}

@@ -2,17 +2,14 @@ pub mod Bodies
 pub mod Deeper
 pub mod Elements
 pub mod Entering
-pub mod Files
 pub mod Lookup
 pub mod Outcomes
 pub mod Calling
 pub mod Parts
-pub mod Placing
 pub mod Printed
 pub mod Sequences
 pub mod Steps
 pub mod Stops
-pub mod Symbols
 pub mod Memories
 pub mod Turns
 pub mod Framed

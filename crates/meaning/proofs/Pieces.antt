@@ -16,8 +16,9 @@ use Rattle.meaning.specs.declared.left.StmtParts.{StmtParts}
 use Rattle.meaning.specs.declared.left.StmtParts.TheVariants as parts
 use Rattle.meaning.specs.declared.loops.Loop.{Loop}
 use Rattle.meaning.specs.declared.loops.Loop.TheVariants as kind
-use Rattle.meaning.specs.declared.program.ProgramTables.{ProgramTables}
-use Rattle.meaning.specs.inner.SourceThread.{program_in, items_in}
+use Rattle.program_tables.specs.declared.program.ProgramTables.{ProgramTables}
+use Rattle.meaning.specs.inner.SourceThread.{items_in}
+use Rattle.program_tables.specs.Views.{program_in}
 use Rattle.meaning.specs.inner.Does.{caller_in, does_stmts}
 use Rattle.meaning.specs.Frames.{IsFramed}
 use Rattle.meaning.specs.inner.Going.{Ends, Nests, apart_begun, follows, drop_names, call_alone, call_begun, call_left, scope_begun, loop_begun, turn_of, turn_end_of, follow_turn, IsStep}

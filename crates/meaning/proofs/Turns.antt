@@ -14,8 +14,8 @@ use Rattle.meaning.specs.declared.standing.StandingThread.{StandingThread}
 use Rattle.meaning.specs.declared.standing.StoppedThread.{StoppedThread}
 use Rattle.meaning.specs.Outcomes.{memories_in, thread_end_in}
 use Rattle.meaning.specs.InOrder.{IsInOrder, report_in, text_and_end}
-use Rattle.meaning.specs.declared.program.ProgramTables.{ProgramTables}
-use Rattle.meaning.specs.inner.SourceThread.{program_in}
+use Rattle.program_tables.specs.declared.program.ProgramTables.{ProgramTables}
+use Rattle.program_tables.specs.Views.{program_in}
 use Rattle.meaning.specs.inner.Standing.{IsStop, end_by, rest}
 use Rattle.meaning.proofs.Advancing.{seen_is}
 use Rattle.meaning.specs.inner.Turns.{AreKnown, IsKnown, TakesTurn, does_in, founds_in, seen_in}

@@ -1,8 +1,4 @@
 -- What private functions say; no public contract cites it.
--- what look-ups in a file give
-pub mod File
--- the tables of a program's names
-pub mod Tables
 -- the value that two registers stand for
 pub mod Word
 -- the state that a thread of the source holds, and what answers say

@@ -6,11 +6,10 @@ ghost use Rattle.meaning.specs.Asked.{IsReply, program_asked, state_over};
 ghost use Rattle.meaning.specs.inner.SourceThread.{state_in};
 
 use crate::calls::enter_function;
-use crate::program::ProgramTables;
 use crate::source_thread::{Context, SourceThread};
-use crate::tables::source;
 use crate::transactions::copy_memory;
 use crate::word::is_zero;
+use program_tables::{ProgramTables, tables};
 use separation::Accepted;
 use std::alloc::{AllocError, Allocator};
 use syntax::thread_end::Halt;
@@ -40,7 +39,7 @@ pub fn asked_program<'p, A: Allocator + Copy>(
 ) -> Result<AskedProgram<'p, A>, AllocError>
     ensures { IfOk result (λ a. program_asked a ≡ program_of accepted.now.safe.typed.unit) }
 {
-    match source(alloc, accepted.safe().typed()) {
+    match tables(alloc, accepted.safe().typed()) {
         Ok(source) => Ok(AskedProgram { source }),
         Err(refused) => Err(refused),
     }

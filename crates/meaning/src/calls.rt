@@ -8,19 +8,19 @@ ghost use Rattle.meaning.specs.inner.Calls.{begin_call, begun_in};
 ghost use Rattle.syntax.specs.Tree as tree;
 ghost use Rattle.syntax.specs.Tree.{Int};
 ghost use Rattle.meaning.specs.inner.Does.{caller_in};
-ghost use Rattle.meaning.specs.inner.SourceThread.{completion_of, MeansAs, MeansWord, MeansWords, items_in, program_in};
+ghost use Rattle.meaning.specs.inner.SourceThread.{completion_of, MeansAs, MeansWord, MeansWords, items_in};
+ghost use Rattle.program_tables.specs.Views.{program_in};
 ghost use Rattle.meaning.specs.inner.SourceThread.{state_in};
 
 use crate::arithmetic::convert;
 use crate::expr::eval;
-use crate::names::definition;
 use crate::outcome::TrapCause;
 use crate::places::note;
-use crate::program::ProgramTables;
 use crate::source_thread::{Halted, Local, SourceThread, StmtCompletion, tick, trap};
 use crate::stmt::stmts;
 use crate::word::{Word, convert_word, flag, unpack};
 use lex::token::{Scalar, Span};
+use program_tables::ProgramTables;
 use std::alloc::{AllocError, Allocator};
 use std::mem;
 use syntax::thread_end::{Halt, Trap};
@@ -102,7 +102,7 @@ pub(crate) fn begin<'p, A: Allocator + Copy>(
         m.new }
     ensures deep { IfOk result (λ b. block_depth (stmts_of b.body.now) ≤ program_depth (program_in source.now)) }
 {
-    let Some(d) = definition(source, f) else {
+    let Some(d) = source.function(f) else {
         m.why = Some(Halt::Astray);
         return Err(Halted {});
     };

@@ -4,17 +4,18 @@ ghost use Rattle.syntax.specs.Views.{expr_of};
 ghost use Rattle.syntax.specs.Tree as tree;
 ghost use Rattle.syntax.specs.Actions as act;
 ghost use Rattle.syntax.specs.Meaning as meaning;
-ghost use Rattle.meaning.specs.inner.SourceThread.{MeansLvalue, MeansWord, program_in, state_in};
+ghost use Rattle.meaning.specs.inner.SourceThread.{MeansLvalue, MeansWord, state_in};
+ghost use Rattle.program_tables.specs.Views.{program_in};
 ghost use Rattle.meaning.specs.inner.Does.{caller_in, does_expr};
 
 use crate::calls::call;
 use crate::lvalues::{common_value, element_cell, variable};
 use crate::places::note;
-use crate::program::ProgramTables;
 use crate::source_thread::{Halted, Lvalue, SourceThread, fetch, operate, operate_unary};
 use crate::transactions::value_transaction;
 use crate::word::{Word, constant, convert_word, flag, is_zero};
 use lex::token::Span;
+use program_tables::ProgramTables;
 use std::alloc::Allocator;
 use syntax::tree::{Expr, LogicalOp, Name};
 

@@ -7,17 +7,18 @@ ghost use Rattle.syntax.specs.Tree as tree;
 ghost use Rattle.syntax.specs.Types.{common_of, type_of as type_due, running_scope};
 ghost use Rattle.syntax.specs.Numbers.{value_in_type};
 ghost use Rattle.syntax.specs.Views.{expr_of, name_of};
-ghost use Rattle.meaning.specs.inner.SourceThread.{MeansLvalue, MeansWord, program_in, state_in};
+ghost use Rattle.meaning.specs.inner.SourceThread.{MeansLvalue, MeansWord, state_in};
+ghost use Rattle.program_tables.specs.Views.{program_in};
 ghost use Rattle.meaning.specs.inner.Does.{caller_in};
 ghost use Rattle.meaning.specs.inner.Word.{value_of};
 
-use crate::names::{global, type_of};
+use crate::names::type_of;
 use crate::outcome::TrapCause;
 use crate::places::note_trap;
-use crate::program::ProgramTables;
 use crate::source_thread::{Halted, Lvalue, SourceThread, fetch, lvalue_trap, newest};
 use crate::word::{Word, convert_word, unpack};
 use lex::token::Span;
+use program_tables::ProgramTables;
 use std::alloc::Allocator;
 use syntax::thread_end::{Halt, Trap};
 use syntax::tree::{Expr, Name};
@@ -36,7 +37,7 @@ pub(crate) fn name_lvalue<'p, A: Allocator + Copy>(
     if let Some((i, ty)) = newest(m.locals.as_slice(), x.text.as_str()) {
         return Ok(Lvalue::InLocal(i, ty));
     }
-    match global(source, x.text.as_str()) {
+    match source.global(x.text.as_str()) {
         Some(g) => Ok(Lvalue::InCell(g.cell, g.global.ty)),
         None => {
             m.why = Some(Halt::Astray);
@@ -71,7 +72,7 @@ pub(crate) fn element_cell<'p, A: Allocator + Copy>(
         (meaning.element (program_in source.now) (caller_in source.now 0) x.now.text (value_of index) (state_in m.old))
         m.new }
 {
-    let Some(g) = global(source, x.text.as_str()) else {
+    let Some(g) = source.global(x.text.as_str()) else {
         m.why = Some(Halt::Astray);
         return Err(Halted {});
     };

@@ -6,75 +6,10 @@ use crate::loops::Loop;
 use crate::outcome::{HaltPlace, TrapCause};
 use lex::token::Span;
 use std::alloc::Allocator;
-use syntax::tree::{BinaryOp, Declaration, Expr, ForHead, Simple, Stmt};
+use syntax::spans::{span_of, span_of_head, span_of_stmt};
+use syntax::tree::{BinaryOp, Stmt};
 use syntax::types::operand_type;
 use syntax::value::Value;
-
-/// Where an expression stands.
-pub(crate) fn span_of<A: Allocator>(e: &Expr<A>) -> Span {
-    match e {
-        Expr::Variable(x) => x.span,
-        Expr::Constant(_, _, at)
-        | Expr::Element(_, _, at)
-        | Expr::Call(_, _, at)
-        | Expr::Parenthesized(_, at)
-        | Expr::Cast(_, _, at)
-        | Expr::Unary(_, _, at)
-        | Expr::Binary(_, _, _, at)
-        | Expr::Logical(_, _, _, at)
-        | Expr::Conditional(_, _, _, at)
-        | Expr::InTransaction(_, _, _, at) => *at,
-    }
-}
-
-/// Where an assignment or an expression stands; of `x++` the `x`.
-pub(crate) fn span_of_simple<A: Allocator>(s: &Simple<A>) -> Span {
-    match s {
-        Simple::Evaluate(e) | Simple::Adjust(e, _) => span_of(e),
-        Simple::Assign(to, _, e) => Span {
-            start: span_of(to).start,
-            end: span_of(e).end,
-        },
-    }
-}
-
-/// Where the first name of a declaration stands.
-fn span_of_declaration<A: Allocator>(d: &Declaration<A>) -> Option<Span> {
-    match d.declarators.as_slice().first() {
-        Some(first) => Some(first.name.span),
-        None => None,
-    }
-}
-
-/// Where the condition of a `for` stands, or else its step.
-fn span_of_head<A: Allocator>(head: &ForHead<A>) -> Option<Span> {
-    match &head.condition {
-        Some(c) => Some(span_of(c)),
-        None => match &head.step {
-            Some(step) => Some(span_of_simple(step)),
-            None => None,
-        },
-    }
-}
-
-/// Where what a statement is known by stands: its keyword, or where the tree does not keep that its condition or what it
-/// does. A block and an empty statement have nothing of their own.
-fn span_of_stmt<A: Allocator>(s: &Stmt<A>) -> Option<Span> {
-    match s {
-        Stmt::Empty | Stmt::Block(_) => None,
-        Stmt::Declare(d) => span_of_declaration(d),
-        Stmt::Do(s) => Some(span_of_simple(s)),
-        Stmt::If(c, _, _) | Stmt::While(c, _) | Stmt::DoWhile(_, c) => Some(span_of(c)),
-        Stmt::For(head, _) => span_of_head(head.get()),
-        Stmt::Print(at, _, _, _)
-        | Stmt::Break(at)
-        | Stmt::Continue(at)
-        | Stmt::Return(_, at)
-        | Stmt::Transaction(_, _, at)
-        | Stmt::Cancel(at)
-        | Stmt::CancelOuter(at) => Some(*at),
-    }
-}
 
 /// What an operator on two values could not compute, in the types in which it computes them.
 #[cold]

@@ -6,21 +6,22 @@ ghost use Rattle.syntax.specs.Tree as tree;
 ghost use Rattle.syntax.specs.Actions as act;
 ghost use Rattle.syntax.specs.Meaning as meaning;
 ghost use Rattle.syntax.specs.Numbers.{binary};
-ghost use Rattle.meaning.specs.inner.SourceThread.{Means, MeansCompletion, MeansLvalue, program_in, lvalue_of};
+ghost use Rattle.meaning.specs.inner.SourceThread.{Means, MeansCompletion, MeansLvalue, lvalue_of};
+ghost use Rattle.program_tables.specs.Views.{program_in};
 ghost use Rattle.meaning.specs.inner.SourceThread.{state_in};
 ghost use Rattle.meaning.specs.inner.Word.{value_of};
 ghost use Rattle.meaning.specs.inner.Does.{caller_in, declared_one};
 
 use crate::expr::{element, eval};
 use crate::lvalues::name_lvalue;
-use crate::places::span_of_simple;
-use crate::program::ProgramTables;
 use crate::source_thread::{
     Halted, Local, Lvalue, SourceThread, StmtCompletion, assign, fetch, operate,
 };
 use crate::word::{Word, flag};
 use lex::token::{Scalar, Span};
+use program_tables::ProgramTables;
 use std::alloc::Allocator;
+use syntax::spans::span_of_simple;
 use syntax::thread_end::Halt;
 use syntax::tree::{BinaryOp, Declarator, Expr, Simple};
 

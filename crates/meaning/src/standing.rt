@@ -12,7 +12,8 @@ ghost use Rattle.meaning.specs.declared.left.Pending.TheVariants as tasks;
 ghost use Rattle.meaning.specs.declared.left.Direction.TheVariants as ways;
 ghost use Rattle.meaning.specs.inner.Going.{Follow, IsStep, call_begun, follows};
 ghost use Rattle.meaning.specs.inner.Left.{follow_of, left_gone_on, first_step, continue_with, step_of};
-ghost use Rattle.meaning.specs.inner.SourceThread.{Happened, completion_of, halt_of, program_in, state_in};
+ghost use Rattle.meaning.specs.inner.SourceThread.{Happened, completion_of, halt_of, state_in};
+ghost use Rattle.program_tables.specs.Views.{program_in};
 ghost use Rattle.meaning.specs.inner.Standing.{IsGone, IsStop, bare, rest};
 
 use crate::calls::{Begun, begin};
@@ -20,11 +21,11 @@ use crate::left::{
     Direction, Left, Pending, Stepped, StmtParts, call_alone, open, open_call, parts_of, step,
 };
 use crate::outcome::HaltPlace;
-use crate::program::ProgramTables;
 use crate::source_thread::{Context, Local, SourceThread, StmtCompletion};
 use crate::threads::start;
 use crate::transactions::{copy_locals, copy_memory};
 use lex::token::{Scalar, Span};
+use program_tables::ProgramTables;
 use std::alloc::{AllocError, Allocator};
 use syntax::thread_end::Halt;
 use syntax::tree::{Expr, Name, Stmt};

@@ -6,7 +6,8 @@ ghost use Rattle.syntax.specs.Views.{expr_of, exprs_of, stmt_of};
 ghost use Rattle.syntax.specs.Tree as tree;
 ghost use Rattle.syntax.specs.Actions as act;
 ghost use Rattle.syntax.specs.Meaning as meaning;
-ghost use Rattle.meaning.specs.inner.SourceThread.{MeansCompletion, program_in, state_in};
+ghost use Rattle.meaning.specs.inner.SourceThread.{MeansCompletion, state_in};
+ghost use Rattle.program_tables.specs.Views.{program_in};
 ghost use Rattle.meaning.specs.inner.Does.{caller_in, does_stmt, does_stmts, if_of};
 
 use crate::calls::values;
@@ -14,12 +15,12 @@ use crate::expr::eval;
 use crate::loops::{Loop, for_scoped, repeat};
 use crate::places::note_stmt;
 use crate::print::{may_print, print_pieces};
-use crate::program::ProgramTables;
 use crate::simple::{declare, simple};
 use crate::source_thread::{Halted, SourceThread, StmtCompletion, tick};
 use crate::transactions::{Body, transaction};
 use crate::word::{flag, is_zero};
 use containers::Boxed;
+use program_tables::ProgramTables;
 use std::alloc::Allocator;
 use syntax::tree::{Expr, Stmt};
 

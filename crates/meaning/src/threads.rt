@@ -8,14 +8,14 @@ ghost use Rattle.syntax.specs.Threads.{first_state, thread as thread_due, worker
 ghost use Rattle.syntax.specs.Views.{program_of};
 ghost use Rattle.meaning.specs.Outcomes.{AreMemories, memories_in, outcome_in, thread_end_in};
 ghost use Rattle.meaning.specs.inner.Standing.{end_by as end_by_due};
-ghost use Rattle.meaning.specs.inner.SourceThread.{Means, context_in, program_in, state_in};
+ghost use Rattle.meaning.specs.inner.SourceThread.{Means, context_in, state_in};
+ghost use Rattle.program_tables.specs.Views.{program_in};
 
 use crate::calls::enter_function;
 use crate::outcome::{ThreadEnd, ThreadOutcome};
-use crate::program::ProgramTables;
 use crate::source_thread::{Context, Halted, SourceThread, tick};
-use crate::tables::source;
 use lex::token::Scalar;
+use program_tables::{ProgramTables, tables};
 use separation::Accepted;
 use separation::laws::never_astray;
 use std::alloc::{AllocError, Allocator};
@@ -124,7 +124,7 @@ pub fn thread<A: Allocator + Copy>(
 {
     never_astray(); // the law by which an end is told below
     threads_leave_memories(); // the law by which what is left are memories
-    let Ok(source) = source(alloc, accepted.safe().typed()) else {
+    let Ok(source) = tables(alloc, accepted.safe().typed()) else {
         return Err(AllocError);
     };
     let mut m = start(alloc, founds, ticks);

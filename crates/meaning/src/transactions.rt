@@ -13,10 +13,10 @@ ghost use Rattle.meaning.specs.inner.SourceThread.{state_in};
 ghost use Rattle.meaning.specs.inner.SourceThread.{items_in, left_too, Happened, halt_of};
 
 use crate::expr::eval;
-use crate::program::ProgramTables;
 use crate::source_thread::{Context, Halted, Local, SourceThread, StmtCompletion, tick};
 use crate::stmt::block;
 use crate::word::Word;
+use program_tables::ProgramTables;
 use std::alloc::{AllocError, Allocator};
 use std::mem;
 use syntax::thread_end::Halt;

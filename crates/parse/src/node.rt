@@ -11,6 +11,7 @@ use crate::lead::Infix;
 use containers::{Boxed, Items};
 use lex::token::{Scalar, Span};
 use std::alloc::{AllocError, Allocator};
+use syntax::spans::span_of;
 use syntax::tree::{Expr, Mode, Name, UnaryOp};
 
 /// From the start of one span to the end of another.
@@ -20,25 +21,6 @@ pub fn across(first: Span, last: Span) -> Span
     Span {
         start: first.start,
         end: last.end,
-    }
-}
-
-/// Where an expression stands.
-pub fn span_of<A: Allocator>(e: &Expr<A>) -> Span
-    ensures { result ≡ span_of (expr_of e.now) }
-{
-    match e {
-        Expr::Variable(name) => name.span,
-        Expr::Constant(_, _, span)
-        | Expr::Element(_, _, span)
-        | Expr::Call(_, _, span)
-        | Expr::Parenthesized(_, span)
-        | Expr::Cast(_, _, span)
-        | Expr::Unary(_, _, span)
-        | Expr::Binary(_, _, _, span)
-        | Expr::Logical(_, _, _, span)
-        | Expr::Conditional(_, _, _, span)
-        | Expr::InTransaction(_, _, _, span) => *span,
     }
 }
 

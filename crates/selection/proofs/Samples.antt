@@ -50,7 +50,7 @@ first_code = refl
 
 -- x + __transaction_relaxed(x + x), to be had in register 1
 in_its_own : (emit (Shares (x ∷ []) ∷ []) [] (Binary Add (var (codes "x")) (InTransaction Relaxed no_span (Binary Add (var (codes "x")) (var (codes "x")) no_span) no_span) no_span) 7 1 1 no_lists).code ≡
-    own.Read 1 0 ∷ own.Begin 13 ∷ own.Read 2 0 ∷ own.Read 3 0 ∷ own.AddSigned 2 2 3 ∷ own.Commit ∷ own.AddSigned 1 1 2 ∷ []
+    own.Read 1 0 ∷ own.Begin 13 ∷ own.Read 2 0 ∷ own.Read 3 0 ∷ own.Compute Add Int 2 2 3 ∷ own.Commit ∷ own.Compute Add Int 1 1 2 ∷ []
 in_its_own = refl
 
 abbrev atomic : Stmts → Stmts
@@ -142,16 +142,16 @@ abbrev assigned : List ℕ → Expr → List Own
 assigned to e = (stmt_code wide (Do (Assign (var to) None e)) (no_exits None) locals 7 no_lists).code
 
 -- v = v + 1; v = 1 + v; v = i + v; v = v << i;
-adds_to_v : assigned (codes "v") (Binary Add (var (codes "v")) (num 1) no_span) ≡ own.Constant 2 1 ∷ own.AddLong 0 0 2 ∷ []
+adds_to_v : assigned (codes "v") (Binary Add (var (codes "v")) (num 1) no_span) ≡ own.Constant 2 1 ∷ own.Compute Add LongLong 0 0 2 ∷ []
 adds_to_v = refl
 
-adds_v : assigned (codes "v") (Binary Add (num 1) (var (codes "v")) no_span) ≡ own.Constant 2 1 ∷ own.AddLong 0 2 0 ∷ []
+adds_v : assigned (codes "v") (Binary Add (num 1) (var (codes "v")) no_span) ≡ own.Constant 2 1 ∷ own.Compute Add LongLong 0 2 0 ∷ []
 adds_v = refl
 
-adds_both : assigned (codes "v") (Binary Add (var (codes "i")) (var (codes "v")) no_span) ≡ own.Extend 2 1 ∷ own.AddLong 0 2 0 ∷ []
+adds_both : assigned (codes "v") (Binary Add (var (codes "i")) (var (codes "v")) no_span) ≡ own.Extend 2 1 ∷ own.Compute Add LongLong 0 2 0 ∷ []
 adds_both = refl
 
-shifts_v : assigned (codes "v") (Binary ShiftLeft (var (codes "v")) (var (codes "i")) no_span) ≡ own.ShiftLeftLong 0 0 1 ∷ []
+shifts_v : assigned (codes "v") (Binary ShiftLeft (var (codes "v")) (var (codes "i")) no_span) ≡ own.Compute ShiftLeft LongLong 0 0 1 ∷ []
 shifts_v = refl
 
 -- v = i; i = v; v = 5; i = v < 5;
@@ -164,7 +164,7 @@ halves = refl
 sets : assigned (codes "v") (num 5) ≡ own.Constant 0 5 ∷ []
 sets = refl
 
-compares : assigned (codes "i") (Binary Less (var (codes "v")) (num 5) no_span) ≡ own.Constant 2 5 ∷ own.LessLong 1 0 2 ∷ []
+compares : assigned (codes "i") (Binary Less (var (codes "v")) (num 5) no_span) ≡ own.Constant 2 5 ∷ own.Compute Less LongLong 1 0 2 ∷ []
 compares = refl
 
 -- y = i; x = v; x = 4294967297LL;
@@ -178,7 +178,7 @@ sets_lower_half : assigned (codes "x") (Constant 4294967297 LongLong no_span) �
 sets_lower_half = refl
 
 -- i += v; and a condition (int)v
-changes : (stmt_code wide (Do (Assign (var (codes "i")) (Some Add) (var (codes "v")))) (no_exits None) locals 7 no_lists).code ≡ own.Extend 2 1 ∷ own.AddLong 1 2 0 ∷ own.Low 1 1 ∷ []
+changes : (stmt_code wide (Do (Assign (var (codes "i")) (Some Add) (var (codes "v")))) (no_exits None) locals 7 no_lists).code ≡ own.Extend 2 1 ∷ own.Compute Add LongLong 1 2 0 ∷ own.Low 1 1 ∷ []
 changes = refl
 
 asks : (stmt_code wide (If (Cast Int (var (codes "v")) no_span) (Do (Assign (var (codes "i")) None (num 1)))) (no_exits None) locals 7 no_lists).code ≡ own.Low 2 0 ∷ own.JumpZero 2 10 ∷ own.Constant 1 1 ∷ []

@@ -7,9 +7,7 @@ use Rattle.lex.specs.declared.token.Scalar.{Scalar}
 use Rattle.lex.specs.declared.token.Scalar.TheVariants.{Int, Unsigned, LongLong}
 use Rattle.syntax.specs.declared.tree.UnaryOp.TheVariants.{Negate, Keep, Not, Complement}
 use Rattle.syntax.specs.declared.tree.BinaryOp.{BinaryOp}
-use Rattle.syntax.specs.declared.tree.BinaryOp.TheVariants.{Or, Xor, And, Equal, NotEqual, Less, Greater, LessEqual}
-use Rattle.syntax.specs.declared.tree.BinaryOp.TheVariants.{GreaterEqual, ShiftLeft, ShiftRight, Add, Subtract}
-use Rattle.syntax.specs.declared.tree.BinaryOp.TheVariants.{Multiply, Divide, Remainder}
+use Rattle.syntax.specs.declared.tree.BinaryOp.TheVariants.{Equal}
 use Rattle.syntax.specs.declared.tree.LogicalOp.{LogicalOp}
 use Rattle.syntax.specs.Tree.{Parameter, Expr, Exprs, Variable, Constant, Element, Call, Parenthesized, Cast, Unary}
 use Rattle.syntax.specs.Tree.{Binary, Logical, Conditional, InTransaction, Program}
@@ -24,47 +22,6 @@ use Rattle.selection.specs.Lists.{Lists, with_register, with_registers}
 use Rattle.selection.specs.Names.{Callee, callee_of}
 use Rattle.selection.specs.Conditions.{Condition, test_in, going_on, by_value, opposite, logical_condition, zero_test}
 use Rattle.selection.specs.Conditions.{zero_tested}
-
--- the instruction of an operator: one that asks for more is the other way round
-abbrev pub computing : BinaryOp → Scalar → ℕ → ℕ → ℕ → Instr
-computing Add Int d a b = own.AddSigned d a b
-computing Add Unsigned d a b = own.AddUnsigned d a b
-computing Add LongLong d a b = own.AddLong d a b
-computing Subtract Int d a b = own.SubtractSigned d a b
-computing Subtract Unsigned d a b = own.SubtractUnsigned d a b
-computing Subtract LongLong d a b = own.SubtractLong d a b
-computing Multiply Int d a b = own.MultiplySigned d a b
-computing Multiply Unsigned d a b = own.MultiplyUnsigned d a b
-computing Multiply LongLong d a b = own.MultiplyLong d a b
-computing Divide Int d a b = own.DivideSigned d a b
-computing Divide Unsigned d a b = own.DivideUnsigned d a b
-computing Divide LongLong d a b = own.DivideLong d a b
-computing Remainder Int d a b = own.RemainderSigned d a b
-computing Remainder Unsigned d a b = own.RemainderUnsigned d a b
-computing Remainder LongLong d a b = own.RemainderLong d a b
-computing ShiftLeft Int d a b = own.ShiftLeftSigned d a b
-computing ShiftLeft Unsigned d a b = own.ShiftLeftUnsigned d a b
-computing ShiftLeft LongLong d a b = own.ShiftLeftLong d a b
-computing ShiftRight Int d a b = own.ShiftRightSigned d a b
-computing ShiftRight Unsigned d a b = own.ShiftRightUnsigned d a b
-computing ShiftRight LongLong d a b = own.ShiftRightLong d a b
-computing And t d a b = own.And d a b
-computing Or t d a b = own.Or d a b
-computing Xor t d a b = own.Xor d a b
-computing Equal t d a b = own.Equal d a b
-computing NotEqual t d a b = own.NotEqual d a b
-computing Less Int d a b = own.LessSigned d a b
-computing Less Unsigned d a b = own.LessUnsigned d a b
-computing Less LongLong d a b = own.LessLong d a b
-computing Greater Int d a b = own.LessSigned d b a
-computing Greater Unsigned d a b = own.LessUnsigned d b a
-computing Greater LongLong d a b = own.LessLong d b a
-computing LessEqual Int d a b = own.LessEqualSigned d a b
-computing LessEqual Unsigned d a b = own.LessEqualUnsigned d a b
-computing LessEqual LongLong d a b = own.LessEqualLong d a b
-computing GreaterEqual Int d a b = own.LessEqualSigned d b a
-computing GreaterEqual Unsigned d a b = own.LessEqualUnsigned d b a
-computing GreaterEqual LongLong d a b = own.LessEqualLong d b a
 
 abbrev pub negating : Scalar → ℕ → ℕ → Instr
 negating Int d a = own.NegateSigned d a
@@ -191,7 +148,7 @@ abbrev pub logical_negation : Emitted → (into free : ℕ) → Emitted
 logical_negation e into free =
     let zero_in = above free e.location.register in
     record {
-      code = e.code ++ own.Constant zero_in 0 ∷ own.Equal into e.location.register zero_in ∷ [];
+      code = e.code ++ own.Constant zero_in 0 ∷ own.Compute Equal Unsigned into e.location.register zero_in ∷ [];
       lists = with_register into (with_register zero_in e.lists);
       location = record { register = into; ty = Int; to = e.location.to + 2 };
     }
@@ -199,7 +156,7 @@ logical_negation e into free =
 -- an operator on two values, which computes in this type
 abbrev pub both : BinaryOp → Scalar → Emitted → Emitted → ℕ → Emitted
 both op t a b into = record {
-  code = a.code ++ b.code ++ computing op t into a.location.register b.location.register ∷ [];
+  code = a.code ++ b.code ++ own.Compute op t into a.location.register b.location.register ∷ [];
   lists = with_register into b.lists;
   location = record { register = into; ty = result_type op t; to = b.location.to + 1 };
 }

@@ -283,7 +283,7 @@ fn write_operation<E: Write>(
         let _ = write!(err, ", and {} has {bits} bits", name_of(ty));
         return;
     }
-    let (a, b, sign) = (number(ty, left), number(ty, right), sign_of(op));
+    let (a, b, sign) = (number(ty, left), number(ty, right), op.sign());
     let _ = if trap == Trap::ZeroDivisor {
         write!(err, "the divisor of {a} {sign} {b} is 0")
     } else {
@@ -327,27 +327,5 @@ fn name_of(ty: Scalar) -> &'static str {
         Scalar::Int => "int",
         Scalar::Unsigned => "unsigned",
         Scalar::LongLong => "long long",
-    }
-}
-
-/// An operator's sign.
-fn sign_of(op: BinaryOp) -> &'static str {
-    match op {
-        BinaryOp::Or => "|",
-        BinaryOp::Xor => "^",
-        BinaryOp::And => "&",
-        BinaryOp::Equal => "==",
-        BinaryOp::NotEqual => "!=",
-        BinaryOp::Less => "<",
-        BinaryOp::Greater => ">",
-        BinaryOp::LessEqual => "<=",
-        BinaryOp::GreaterEqual => ">=",
-        BinaryOp::ShiftLeft => "<<",
-        BinaryOp::ShiftRight => ">>",
-        BinaryOp::Add => "+",
-        BinaryOp::Subtract => "-",
-        BinaryOp::Multiply => "*",
-        BinaryOp::Divide => "/",
-        BinaryOp::Remainder => "%",
     }
 }

@@ -1,5 +1,5 @@
 -- The rule of the words and of all that the seats know.
-use Rattle.std.specs.Prelude.{◌≡◌, ℕ, suc, ◌+◌, ◌≤◌, ◌<◌, ◌%◌, ◌==◌, nat_lt, false, MatchBool, if◌then◌else◌, List, [], ◌∷◌, ◌++◌}
+use Rattle.std.specs.Prelude.{◌≡◌, ℕ, suc, ◌+◌, ◌≤◌, ◌==◌, nat_lt, false, MatchBool, if◌then◌else◌, List, [], ◌∷◌, ◌++◌}
 use Rattle.std.specs.Prelude.{drop, Some}
 use Rattle.std.specs.List.{slice_get}
 use mathlib.Core.Option.{some}
@@ -109,15 +109,6 @@ IsNext key m x = (th : Thread Configuration) × Sits key m th × (access (effect
 -- one step and its answer: local, or an access that the seat made
 abbrev pub IsSeatStep : Access → SeatView → Answer → SeatView → Type 0
 IsSeatStep x m a w = MatchBool (is_local x) ((w ≡ m) × (a ≡ Done)) ((n : ℕ) × (a ≡ reply x n) × Took m n w)
-
--- the access names a cell, or swaps from a value that can be followed
-abbrev pub IsMakeable : ℕ → Access → Type 0
-IsMakeable cells Local = Unit {0}
-IsMakeable cells LoadLock = Unit {0}
-IsMakeable cells (LoadWord a) = a < cells
-IsMakeable cells (Swap from) = from % 2 ≡ 0
-IsMakeable cells (StoreWord a v) = a < cells
-IsMakeable cells (StoreLock n) = Unit {0}
 
 -- the list of steps with the local ones that the thread has made since the seat's last access
 pub record SettledAs (p : ViewPart) (k : ℕ) (now : Part Configuration) (after : List ViewPart) : Type 0 where

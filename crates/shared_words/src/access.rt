@@ -2,10 +2,11 @@
 
 ghost use Rattle.std.specs.Prelude.{◌≡◌, ◌+◌, ◌^◌, ◌<◌, ◌≤◌, false};
 ghost use Rattle.bytecode.specs.Valid.{cells_of};
-ghost use Rattle.bytecode.specs.declared.limits.TheConstants.{MOST_CELLS};
+ghost use Rattle.syntax.specs.declared.limits.TheConstants.{MOST_CELLS};
 ghost use Rattle.norec_core.specs.Accesses.{stops};
 ghost use Rattle.norec_core.specs.declared.step.Access.TheVariants.{LoadLock, LoadWord, Swap, StoreWord, StoreLock};
-ghost use Rattle.shared_words.specs.Rule.{IsMakeable, IsNext, IsSeatStep, Took};
+ghost use Rattle.machine.specs.NamedCells.{IsMakeable};
+ghost use Rattle.shared_words.specs.Rule.{IsNext, IsSeatStep, Took};
 
 use crate::rule::{Accessed, Ruled, Setup, View};
 use atomic_table::{Seat, Shared};

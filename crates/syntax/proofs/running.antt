@@ -2,6 +2,7 @@
 pub mod Contexts
 pub mod Counted
 pub mod Further
+pub mod InExpressions
 pub mod Loops
 pub mod MeaningSteady
 pub mod MoreFounds

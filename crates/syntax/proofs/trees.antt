@@ -3,3 +3,4 @@ pub mod Depths
 pub mod FormatDirectives
 pub mod Pushes
 pub mod Seen
+pub mod Signs

@@ -6,6 +6,7 @@ use Rattle.std.specs.Prelude.{ℕ, ◌+◌, List, [], ◌∷◌, ◌++◌, lengt
 use Rattle.std.specs.Prelude.{false, not, ◌&&◌, ◌||◌, IsTrue, is_some, is_none, if◌then◌else◌, codes, option_map}
 use Rattle.std.specs.Prelude.{unwrap_or, ◌==◌, nat_le, bytes_eq, All}
 use Rattle.std.specs.List.{list_any}
+use Rattle.syntax.specs.declared.limits.TheConstants.{MOST_CELLS}
 use Rattle.syntax.specs.Tree.{Span, Scalar, Int, Unsigned, LongLong, Initialiser, Name, Expr, Exprs, Variable, Constant}
 use Rattle.syntax.specs.Tree.{Element, Call, Parenthesized, Cast, Unary, Binary, Logical, Conditional, InTransaction}
 use Rattle.syntax.specs.Tree.{Simple, Evaluate, Assign, Adjust, Declarator, Start, Nothing, Declares, Does, Stmt, Stmts}
@@ -288,7 +289,7 @@ IsTypedFunction earlier f =
 -- the length of an array (6.7.6.2), and its initialisers (6.7.9)
 abbrev pub IsLength : Option (ℕ × Span) → List Demand
 IsLength None = []
-IsLength (Some n) = demand 25 n.1 (nat_le 1 n.0 && nat_le n.0 4096)
+IsLength (Some n) = demand 25 n.1 (nat_le 1 n.0 && nat_le n.0 MOST_CELLS)
 
 -- no initialiser stands where no cell is left for it
 abbrev pub HaveCells : List Initialiser → List Demand
@@ -302,7 +303,7 @@ AreTypedGlobals earlier before taken (g ∷ gs) =
     demand 21 g.name.span (is_unknown (file_scope (earlier ++ Shares before ∷ []) g.name.text))
     ++ IsLength g.length
     ++ HaveCells (drop (cells g) g.first)
-    ++ demand 25 g.name.span (nat_le (taken + cells g) 4096)
+    ++ demand 25 g.name.span (nat_le (taken + cells g) MOST_CELLS)
     ++ AreTypedGlobals earlier (before ++ g ∷ []) (taken + cells g) gs
 
 abbrev pub IsTypedItem : List Item → Item → List Demand

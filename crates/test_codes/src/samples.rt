@@ -1,6 +1,8 @@
 //! Codes that tests run in more than one place, each of a `worker` with two registers over a variable `x`.
 
 use bytecode::Instr;
+use lex::token::Scalar;
+use syntax::tree::BinaryOp;
 
 /// Adds 5 to x, and prints what it then is.
 pub fn adds_five() -> &'static [Instr] {
@@ -8,7 +10,7 @@ pub fn adds_five() -> &'static [Instr] {
         Instr::Constant(1, 5),
         Instr::Begin(7),
         Instr::Read(0, 0),
-        Instr::AddSigned(0, 0, 1),
+        Instr::Compute(BinaryOp::Add, Scalar::Int, 0, 0, 1),
         Instr::Write(0, 0),
         Instr::Commit,
         Instr::PrintSigned(0),
@@ -38,7 +40,7 @@ pub fn traps() -> &'static [Instr] {
         Instr::Irrevocable,
         Instr::PrintSigned(0),
         Instr::Constant(1, 0),
-        Instr::DivideSigned(0, 0, 1),
+        Instr::Compute(BinaryOp::Divide, Scalar::Int, 0, 0, 1),
         Instr::Commit,
         Instr::Return,
     ];

@@ -4,8 +4,10 @@
 use crate::built::code_of;
 use crate::written::{WrittenCode, X, Y, second, worker};
 use bytecode::{Code, Instr};
+use lex::token::Scalar;
 use std::alloc::Allocator;
 use syntax::thread_end::Trap;
+use syntax::tree::BinaryOp;
 
 /// Two words, an operator of registers 2 and 3, which hold them, into register 1, and how the word that it gives is
 /// printed as a `long long`, or why it traps.
@@ -66,32 +68,42 @@ pub fn code_over_both<A: Allocator + Copy>(
 
 /// Instructions of narrow types see what lies in a register modulo 2^32, but a shift's count whole.
 const SEEN_NARROW: [WideOperator; 30] = [
-    (4294967301, 1, Instr::AddSigned(1, 2, 3), Ok("6")),
+    (
+        4294967301,
+        1,
+        Instr::Compute(BinaryOp::Add, Scalar::Int, 1, 2, 3),
+        Ok("6"),
+    ),
     (
         4294967296,
         1,
-        Instr::SubtractUnsigned(1, 2, 3),
+        Instr::Compute(BinaryOp::Subtract, Scalar::Unsigned, 1, 2, 3),
         Ok("4294967295"),
     ),
     (
         7,
         4294967296,
-        Instr::DivideSigned(1, 2, 3),
+        Instr::Compute(BinaryOp::Divide, Scalar::Int, 1, 2, 3),
         Err(Trap::ZeroDivisor),
     ),
     (
         4294967303,
         8589934596,
-        Instr::RemainderUnsigned(1, 2, 3),
+        Instr::Compute(BinaryOp::Remainder, Scalar::Unsigned, 1, 2, 3),
         Ok("3"),
     ),
     (
         1,
         4294967297,
-        Instr::ShiftLeftSigned(1, 2, 3),
+        Instr::Compute(BinaryOp::ShiftLeft, Scalar::Int, 1, 2, 3),
         Err(Trap::ShiftCount),
     ),
-    (4294967296, 1, Instr::LessUnsigned(1, 2, 3), Ok("1")),
+    (
+        4294967296,
+        1,
+        Instr::Compute(BinaryOp::Less, Scalar::Unsigned, 1, 2, 3),
+        Ok("1"),
+    ),
     (
         6442450944,
         0,
@@ -104,97 +116,147 @@ const SEEN_NARROW: [WideOperator; 30] = [
     (
         6442450943,
         1,
-        Instr::AddSigned(1, 2, 3),
+        Instr::Compute(BinaryOp::Add, Scalar::Int, 1, 2, 3),
         Err(Trap::OutOfRange),
     ),
-    (8589934591, 1, Instr::AddUnsigned(1, 2, 3), Ok("0")),
+    (
+        8589934591,
+        1,
+        Instr::Compute(BinaryOp::Add, Scalar::Unsigned, 1, 2, 3),
+        Ok("0"),
+    ),
     (
         4294967301,
         8589934599,
-        Instr::SubtractSigned(1, 2, 3),
+        Instr::Compute(BinaryOp::Subtract, Scalar::Int, 1, 2, 3),
         Ok("4294967294"),
     ),
     (
         4294967299,
         8589934591,
-        Instr::MultiplySigned(1, 2, 3),
+        Instr::Compute(BinaryOp::Multiply, Scalar::Int, 1, 2, 3),
         Ok("4294967293"),
     ),
     (
         4295032832,
         8590000129,
-        Instr::MultiplyUnsigned(1, 2, 3),
+        Instr::Compute(BinaryOp::Multiply, Scalar::Unsigned, 1, 2, 3),
         Ok("65536"),
     ),
     (
         1101659111424,
         8589934591,
-        Instr::DivideSigned(1, 2, 3),
+        Instr::Compute(BinaryOp::Divide, Scalar::Int, 1, 2, 3),
         Err(Trap::OutOfRange),
     ),
     (
         4294967303,
         8589934594,
-        Instr::DivideUnsigned(1, 2, 3),
+        Instr::Compute(BinaryOp::Divide, Scalar::Unsigned, 1, 2, 3),
         Ok("3"),
     ),
     (
         8589934585,
         8589934594,
-        Instr::RemainderSigned(1, 2, 3),
+        Instr::Compute(BinaryOp::Remainder, Scalar::Int, 1, 2, 3),
         Ok("4294967295"),
     ),
     (
         4294967297,
         31,
-        Instr::ShiftLeftUnsigned(1, 2, 3),
+        Instr::Compute(BinaryOp::ShiftLeft, Scalar::Unsigned, 1, 2, 3),
         Ok("2147483648"),
     ),
     (
         4294967297,
         4294967296,
-        Instr::ShiftLeftUnsigned(1, 2, 3),
+        Instr::Compute(BinaryOp::ShiftLeft, Scalar::Unsigned, 1, 2, 3),
         Err(Trap::ShiftCount),
     ),
     (
         6442450944,
         31,
-        Instr::ShiftRightSigned(1, 2, 3),
+        Instr::Compute(BinaryOp::ShiftRight, Scalar::Int, 1, 2, 3),
         Ok("4294967295"),
     ),
     (
         6442450944,
         4294967296,
-        Instr::ShiftRightSigned(1, 2, 3),
+        Instr::Compute(BinaryOp::ShiftRight, Scalar::Int, 1, 2, 3),
         Err(Trap::ShiftCount),
     ),
-    (6442450944, 31, Instr::ShiftRightUnsigned(1, 2, 3), Ok("1")),
+    (
+        6442450944,
+        31,
+        Instr::Compute(BinaryOp::ShiftRight, Scalar::Unsigned, 1, 2, 3),
+        Ok("1"),
+    ),
     (
         1,
         4294967327,
-        Instr::ShiftRightUnsigned(1, 2, 3),
+        Instr::Compute(BinaryOp::ShiftRight, Scalar::Unsigned, 1, 2, 3),
         Err(Trap::ShiftCount),
     ),
-    (6442450944, 0, Instr::LessSigned(1, 2, 3), Ok("1")),
-    (4294967297, 1, Instr::LessEqualSigned(1, 2, 3), Ok("1")),
-    (4294967296, 0, Instr::LessEqualUnsigned(1, 2, 3), Ok("1")),
-    (4294967297, 0, Instr::LessEqualUnsigned(1, 2, 3), Ok("0")),
+    (
+        6442450944,
+        0,
+        Instr::Compute(BinaryOp::Less, Scalar::Int, 1, 2, 3),
+        Ok("1"),
+    ),
+    (
+        4294967297,
+        1,
+        Instr::Compute(BinaryOp::LessEqual, Scalar::Int, 1, 2, 3),
+        Ok("1"),
+    ),
+    (
+        4294967296,
+        0,
+        Instr::Compute(BinaryOp::LessEqual, Scalar::Unsigned, 1, 2, 3),
+        Ok("1"),
+    ),
+    (
+        4294967297,
+        0,
+        Instr::Compute(BinaryOp::LessEqual, Scalar::Unsigned, 1, 2, 3),
+        Ok("0"),
+    ),
     (4294967297, 0, Instr::NegateSigned(1, 2), Ok("4294967295")),
     (4294967297, 0, Instr::NegateUnsigned(1, 2), Ok("4294967295")),
 ];
 
 /// Instructions that see all bits of a register, whatever its type.
 const SEEN_WHOLE: [WideOperator; 6] = [
-    (1, 4294967297, Instr::Equal(1, 2, 3), Ok("0")),
-    (1, 4294967297, Instr::NotEqual(1, 2, 3), Ok("1")),
+    (
+        1,
+        4294967297,
+        Instr::Compute(BinaryOp::Equal, Scalar::Unsigned, 1, 2, 3),
+        Ok("0"),
+    ),
+    (
+        1,
+        4294967297,
+        Instr::Compute(BinaryOp::NotEqual, Scalar::Unsigned, 1, 2, 3),
+        Ok("1"),
+    ),
     (
         4294967297,
         4294967296,
-        Instr::And(1, 2, 3),
+        Instr::Compute(BinaryOp::And, Scalar::Unsigned, 1, 2, 3),
         Ok("4294967296"),
     ),
-    (1099511627776, 1, Instr::Or(1, 2, 3), Ok("1099511627777")),
-    (1099511627777, 1, Instr::Xor(1, 2, 3), Ok("1099511627776")),
+    (
+        1099511627776,
+        1,
+        Instr::Compute(BinaryOp::Or, Scalar::Unsigned, 1, 2, 3),
+        Ok("1099511627777"),
+    ),
+    (
+        1099511627777,
+        1,
+        Instr::Compute(BinaryOp::Xor, Scalar::Unsigned, 1, 2, 3),
+        Ok("1099511627776"),
+    ),
     (18446744073709551615, 0, Instr::Move(1, 2), Ok("-1")),
 ];
 
@@ -202,39 +264,49 @@ const SUMS: [WideOperator; 8] = [
     (
         9223372036854775806,
         1,
-        Instr::AddLong(1, 2, 3),
+        Instr::Compute(BinaryOp::Add, Scalar::LongLong, 1, 2, 3),
         Ok("9223372036854775807"),
     ),
     (
         9223372036854775807,
         1,
-        Instr::AddLong(1, 2, 3),
+        Instr::Compute(BinaryOp::Add, Scalar::LongLong, 1, 2, 3),
         Err(Trap::OutOfRange),
     ),
     (
         9223372036854775808,
         18446744073709551615,
-        Instr::AddLong(1, 2, 3),
+        Instr::Compute(BinaryOp::Add, Scalar::LongLong, 1, 2, 3),
         Err(Trap::OutOfRange),
     ),
-    (18446744073709551615, 1, Instr::AddLong(1, 2, 3), Ok("0")),
-    (4294967295, 1, Instr::AddLong(1, 2, 3), Ok("4294967296")),
+    (
+        18446744073709551615,
+        1,
+        Instr::Compute(BinaryOp::Add, Scalar::LongLong, 1, 2, 3),
+        Ok("0"),
+    ),
+    (
+        4294967295,
+        1,
+        Instr::Compute(BinaryOp::Add, Scalar::LongLong, 1, 2, 3),
+        Ok("4294967296"),
+    ),
     (
         18446744073709551615,
         9223372036854775807,
-        Instr::SubtractLong(1, 2, 3),
+        Instr::Compute(BinaryOp::Subtract, Scalar::LongLong, 1, 2, 3),
         Ok("-9223372036854775808"),
     ),
     (
         9223372036854775808,
         1,
-        Instr::SubtractLong(1, 2, 3),
+        Instr::Compute(BinaryOp::Subtract, Scalar::LongLong, 1, 2, 3),
         Err(Trap::OutOfRange),
     ),
     (
         0,
         9223372036854775808,
-        Instr::SubtractLong(1, 2, 3),
+        Instr::Compute(BinaryOp::Subtract, Scalar::LongLong, 1, 2, 3),
         Err(Trap::OutOfRange),
     ),
 ];
@@ -243,31 +315,31 @@ const PRODUCTS: [WideOperator; 5] = [
     (
         18446744069414584320,
         2147483648,
-        Instr::MultiplyLong(1, 2, 3),
+        Instr::Compute(BinaryOp::Multiply, Scalar::LongLong, 1, 2, 3),
         Ok("-9223372036854775808"),
     ),
     (
         4294967296,
         2147483648,
-        Instr::MultiplyLong(1, 2, 3),
+        Instr::Compute(BinaryOp::Multiply, Scalar::LongLong, 1, 2, 3),
         Err(Trap::OutOfRange),
     ),
     (
         9223372036854775808,
         18446744073709551615,
-        Instr::MultiplyLong(1, 2, 3),
+        Instr::Compute(BinaryOp::Multiply, Scalar::LongLong, 1, 2, 3),
         Err(Trap::OutOfRange),
     ),
     (
         3037000500,
         3037000500,
-        Instr::MultiplyLong(1, 2, 3),
+        Instr::Compute(BinaryOp::Multiply, Scalar::LongLong, 1, 2, 3),
         Err(Trap::OutOfRange),
     ),
     (
         3037000499,
         3037000499,
-        Instr::MultiplyLong(1, 2, 3),
+        Instr::Compute(BinaryOp::Multiply, Scalar::LongLong, 1, 2, 3),
         Ok("9223372030926249001"),
     ),
 ];
@@ -276,108 +348,153 @@ const QUOTIENTS: [WideOperator; 9] = [
     (
         9223372036854775808,
         1,
-        Instr::DivideLong(1, 2, 3),
+        Instr::Compute(BinaryOp::Divide, Scalar::LongLong, 1, 2, 3),
         Ok("-9223372036854775808"),
     ),
     (
         9223372036854775808,
         18446744073709551615,
-        Instr::DivideLong(1, 2, 3),
+        Instr::Compute(BinaryOp::Divide, Scalar::LongLong, 1, 2, 3),
         Err(Trap::OutOfRange),
     ),
-    (1, 4294967296, Instr::DivideLong(1, 2, 3), Ok("0")),
+    (
+        1,
+        4294967296,
+        Instr::Compute(BinaryOp::Divide, Scalar::LongLong, 1, 2, 3),
+        Ok("0"),
+    ),
     (
         18446744073709551609,
         2,
-        Instr::DivideLong(1, 2, 3),
+        Instr::Compute(BinaryOp::Divide, Scalar::LongLong, 1, 2, 3),
         Ok("-3"),
     ),
-    (1, 0, Instr::DivideLong(1, 2, 3), Err(Trap::ZeroDivisor)),
+    (
+        1,
+        0,
+        Instr::Compute(BinaryOp::Divide, Scalar::LongLong, 1, 2, 3),
+        Err(Trap::ZeroDivisor),
+    ),
     (
         9223372036854775808,
         18446744073709551615,
-        Instr::RemainderLong(1, 2, 3),
+        Instr::Compute(BinaryOp::Remainder, Scalar::LongLong, 1, 2, 3),
         Err(Trap::OutOfRange),
     ),
     (
         18446744073709551609,
         2,
-        Instr::RemainderLong(1, 2, 3),
+        Instr::Compute(BinaryOp::Remainder, Scalar::LongLong, 1, 2, 3),
         Ok("-1"),
     ),
     (
         4294967297,
         4294967296,
-        Instr::RemainderLong(1, 2, 3),
+        Instr::Compute(BinaryOp::Remainder, Scalar::LongLong, 1, 2, 3),
         Ok("1"),
     ),
-    (1, 0, Instr::RemainderLong(1, 2, 3), Err(Trap::ZeroDivisor)),
+    (
+        1,
+        0,
+        Instr::Compute(BinaryOp::Remainder, Scalar::LongLong, 1, 2, 3),
+        Err(Trap::ZeroDivisor),
+    ),
 ];
 
 const SHIFTS: [WideOperator; 9] = [
     (
         1,
         62,
-        Instr::ShiftLeftLong(1, 2, 3),
+        Instr::Compute(BinaryOp::ShiftLeft, Scalar::LongLong, 1, 2, 3),
         Ok("4611686018427387904"),
     ),
-    (1, 63, Instr::ShiftLeftLong(1, 2, 3), Err(Trap::OutOfRange)),
+    (
+        1,
+        63,
+        Instr::Compute(BinaryOp::ShiftLeft, Scalar::LongLong, 1, 2, 3),
+        Err(Trap::OutOfRange),
+    ),
     (
         18446744073709551615,
         63,
-        Instr::ShiftLeftLong(1, 2, 3),
+        Instr::Compute(BinaryOp::ShiftLeft, Scalar::LongLong, 1, 2, 3),
         Ok("-9223372036854775808"),
     ),
-    (0, 64, Instr::ShiftLeftLong(1, 2, 3), Err(Trap::ShiftCount)),
+    (
+        0,
+        64,
+        Instr::Compute(BinaryOp::ShiftLeft, Scalar::LongLong, 1, 2, 3),
+        Err(Trap::ShiftCount),
+    ),
     (
         0,
         4294967296,
-        Instr::ShiftLeftLong(1, 2, 3),
+        Instr::Compute(BinaryOp::ShiftLeft, Scalar::LongLong, 1, 2, 3),
         Err(Trap::ShiftCount),
     ),
     (
         9223372036854775808,
         63,
-        Instr::ShiftRightLong(1, 2, 3),
+        Instr::Compute(BinaryOp::ShiftRight, Scalar::LongLong, 1, 2, 3),
         Ok("-1"),
     ),
     (
         9223372036854775807,
         62,
-        Instr::ShiftRightLong(1, 2, 3),
+        Instr::Compute(BinaryOp::ShiftRight, Scalar::LongLong, 1, 2, 3),
         Ok("1"),
     ),
     (
         18446744073709551615,
         1,
-        Instr::ShiftRightLong(1, 2, 3),
+        Instr::Compute(BinaryOp::ShiftRight, Scalar::LongLong, 1, 2, 3),
         Ok("-1"),
     ),
-    (0, 64, Instr::ShiftRightLong(1, 2, 3), Err(Trap::ShiftCount)),
+    (
+        0,
+        64,
+        Instr::Compute(BinaryOp::ShiftRight, Scalar::LongLong, 1, 2, 3),
+        Err(Trap::ShiftCount),
+    ),
 ];
 
 const COMPARISONS: [WideOperator; 6] = [
-    (18446744073709551615, 1, Instr::LessLong(1, 2, 3), Ok("1")),
-    (4294967296, 1, Instr::LessLong(1, 2, 3), Ok("0")),
     (
-        9223372036854775808,
-        9223372036854775807,
-        Instr::LessLong(1, 2, 3),
+        18446744073709551615,
+        1,
+        Instr::Compute(BinaryOp::Less, Scalar::LongLong, 1, 2, 3),
         Ok("1"),
     ),
     (
-        9223372036854775808,
-        9223372036854775808,
-        Instr::LessEqualLong(1, 2, 3),
-        Ok("1"),
-    ),
-    (
-        9223372036854775807,
-        9223372036854775808,
-        Instr::LessEqualLong(1, 2, 3),
+        4294967296,
+        1,
+        Instr::Compute(BinaryOp::Less, Scalar::LongLong, 1, 2, 3),
         Ok("0"),
     ),
-    (4294967296, 1, Instr::LessEqualLong(1, 2, 3), Ok("0")),
+    (
+        9223372036854775808,
+        9223372036854775807,
+        Instr::Compute(BinaryOp::Less, Scalar::LongLong, 1, 2, 3),
+        Ok("1"),
+    ),
+    (
+        9223372036854775808,
+        9223372036854775808,
+        Instr::Compute(BinaryOp::LessEqual, Scalar::LongLong, 1, 2, 3),
+        Ok("1"),
+    ),
+    (
+        9223372036854775807,
+        9223372036854775808,
+        Instr::Compute(BinaryOp::LessEqual, Scalar::LongLong, 1, 2, 3),
+        Ok("0"),
+    ),
+    (
+        4294967296,
+        1,
+        Instr::Compute(BinaryOp::LessEqual, Scalar::LongLong, 1, 2, 3),
+        Ok("0"),
+    ),
 ];
 
 const OF_ONE: [WideOperator; 7] = [

@@ -3,7 +3,7 @@
 ghost use Rattle.std.specs.Prelude.{◌≡◌, ◌++◌};
 ghost use Rattle.syntax.specs.Tree as Tree;
 ghost use Rattle.syntax.specs.Views.{name_of, expr_of, exprs_of};
-ghost use Rattle.syntax.specs.Typing.{is_void, span_of, count, may_be_function, takes_so_many};
+ghost use Rattle.syntax.specs.Typing.{is_void, count, may_be_function, takes_so_many};
 ghost use Rattle.syntax.specs.Typing.{first_unmet, demand, IsKnown, IsTyped, IsNumber, GivesNumber, AreNumbers};
 ghost use Rattle.types.specs.inner.Unmet.{unmet_in};
 ghost use Rattle.types.specs.inner.Known.{known_in};
@@ -14,27 +14,9 @@ use crate::symbol::ScopeSymbol;
 use crate::table::ScopeTable;
 use lex::token::Span;
 use std::alloc::Allocator;
+use syntax::spans::span_of;
 use syntax::tree::{Expr, Function, Name};
 use syntax::violation::{Rule, Violation};
-
-/// Where an expression stands.
-pub(crate) fn span_of<A: Allocator>(e: &Expr<A>) -> Span
-    ensures { result ≡ span_of (expr_of e.now) }
-{
-    match e {
-        Expr::Variable(x) => x.span,
-        Expr::Constant(_, _, span)
-        | Expr::Element(_, _, span)
-        | Expr::Call(_, _, span)
-        | Expr::Parenthesized(_, span)
-        | Expr::Cast(_, _, span)
-        | Expr::Unary(_, _, span)
-        | Expr::Binary(_, _, _, span)
-        | Expr::Logical(_, _, _, span)
-        | Expr::Conditional(_, _, _, span)
-        | Expr::InTransaction(_, _, _, span) => *span,
-    }
-}
 
 /// Whether an expression calls a function that gives no value.
 pub(crate) fn is_void<'a, A: Allocator + Copy>(names: &ScopeTable<'a, A>, e: &'a Expr<A>) -> bool

@@ -11,13 +11,14 @@ ghost use Rattle.types.specs.inner.Unmet.{unmet_in};
 ghost use Rattle.types.specs.inner.Known.{known_in};
 ghost use Rattle.types.specs.inner.Specifiers.{is_fitting};
 
-use crate::expr::{check_numbers, count_of, span_of};
+use crate::expr::{check_numbers, count_of};
 use crate::expr_type::type_of;
 use crate::fault::demand;
 use crate::table::ScopeTable;
 use lex::token::{Scalar, Span};
 use std::alloc::Allocator;
 use syntax::format::{FormatDirective, directive_at};
+use syntax::spans::span_of;
 use syntax::tree::Expr;
 use syntax::types::same_type;
 use syntax::violation::{Rule, Violation};

@@ -16,11 +16,9 @@ use crate::symbol::ScopeSymbol;
 use crate::table::ScopeTable;
 use lex::token::Span;
 use std::alloc::{AllocError, Allocator};
+use syntax::limits::MOST_CELLS;
 use syntax::tree::{Function, Global, Initialiser, Item};
 use syntax::violation::{Rule, Violation};
-
-/// The most cells of all globals.
-const MOST_CELLS: u64 = 4096;
 
 fn symbol_of<'a, A: Allocator>(g: &Global<A>) -> ScopeSymbol<'a, Function<A>>
     ensures { known_of result ≡ known_global (global_of g.now) }
@@ -37,7 +35,7 @@ fn check_length(length: &Option<(u64, Span)>) -> Result<(), Violation>
 {
     match length {
         Some((count, span)) => {
-            let right = 1 <= *count && *count <= MOST_CELLS;
+            let right = 1 <= *count && *count <= MOST_CELLS as u64;
             demand(right, Rule::BadLength, *span)
         }
         None => Ok(()),
@@ -72,18 +70,18 @@ fn check_global<'a, A: Allocator + Copy>(
     taken: u64,
     g: &'a Global<A>,
 ) -> Result<(), Violation>
-    requires { taken ≤ 4096 }
+    requires { taken ≤ MOST_CELLS }
     ensures { unmet_in result
         ≡ first_unmet
         (demand 21 g.now.name.span (is_unknown (known_in names.now g.now.name.text)) ++ IsLength g.now.length
         ++ HaveCells (drop (cells (global_of g.now)) g.now.first)
-        ++ demand 25 g.now.name.span (nat_le (taken + cells (global_of g.now)) 4096)) }
+        ++ demand 25 g.now.name.span (nat_le (taken + cells (global_of g.now)) MOST_CELLS)) }
 {
     check_new(names, g)?;
     check_length(&g.length)?;
     let count = g.cell_count() as u64;
     check_first(count, g.first.as_slice())?;
-    let few = taken.saturating_add(count) <= MOST_CELLS;
+    let few = taken.saturating_add(count) <= MOST_CELLS as u64;
     demand(few, Rule::BadLength, g.name.span)
 }
 
@@ -116,14 +114,14 @@ pub(crate) fn check_globals<'a, A: Allocator + Copy>(
 ) -> Result<(), TypeFailure>
     requires none { count_in names.old ≡ 0 }
     requires known { known_in names.old ≡ file_scope (map item_of earlier.now) }
-    requires few { taken.old ≤ 4096 }
+    requires few { taken.old ≤ MOST_CELLS }
     ensures answer { AnswersDemands result
         (AreTypedGlobals (map item_of earlier.now) [] taken.old (map global_of all.now)) }
     ensures known { OnOk result
         (known_in names.new ≡ file_scope (map item_of earlier.now ++ Tree.Shares (map global_of all.now) ∷ [])) }
     ensures none { OnOk result (count_in names.new ≡ 0) }
     ensures taken { OnOk result (taken.new ≡ taken.old + sum_by cells (map global_of all.now)) }
-    ensures few { OnOk result (taken.new ≤ 4096) }
+    ensures few { OnOk result (taken.new ≤ MOST_CELLS) }
 {
     'each: for i in 0..all.len() {
         let g = &all[i];

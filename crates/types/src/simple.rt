@@ -6,10 +6,11 @@ ghost use Rattle.syntax.specs.Typing.{first_unmet, IsTypedTarget, IsAssignable, 
 ghost use Rattle.types.specs.inner.Unmet.{unmet_in};
 ghost use Rattle.types.specs.inner.Known.{known_in};
 
-use crate::expr::{check_expr, check_known, check_number, span_of};
+use crate::expr::{check_expr, check_known, check_number};
 use crate::fault::demand;
 use crate::table::ScopeTable;
 use std::alloc::Allocator;
+use syntax::spans::span_of;
 use syntax::tree::{Expr, Simple};
 use syntax::violation::{Rule, Violation};
 

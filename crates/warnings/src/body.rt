@@ -3,10 +3,11 @@
 use crate::action::{Action, Part};
 use crate::expr::{add_condition, add_expr, add_exprs, add_first, add_simple};
 use crate::flow::completes;
-use crate::known::{Body, FileNames, span_of};
+use crate::known::{Body, FileNames};
 use crate::warning::{Warning, WarningKind};
 use lex::token::Span;
 use std::alloc::{AllocError, Allocator};
+use syntax::spans::span_of;
 use syntax::tree::{Declaration, Expr, ForHead, Parameter, Simple, Start, Stmt};
 
 /// What declarations of one type do.

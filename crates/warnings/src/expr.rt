@@ -1,9 +1,10 @@
 //! What expressions and assignments do.
 
 use crate::action::{Action, Part, Variable};
-use crate::known::{Body, FileNames, span_of};
+use crate::known::{Body, FileNames};
 use crate::numbers::{add_numbers, add_operator};
 use std::alloc::{AllocError, Allocator};
+use syntax::spans::span_of;
 use syntax::tree::{BinaryOp, Expr, Name, Simple};
 
 /// The variable that a name stands for.

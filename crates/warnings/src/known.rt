@@ -2,7 +2,7 @@
 
 use crate::action::Action;
 use crate::warning::Warning;
-use lex::token::{Scalar, Span};
+use lex::token::Scalar;
 use name_tables::{Scope, Table};
 use std::alloc::{AllocError, Allocator};
 use syntax::tree::{Expr, Global, Item};
@@ -131,22 +131,5 @@ pub(crate) fn type_of<A: Allocator + Copy>(
             type_of(file, locals, b.get()),
         ),
         Expr::InTransaction(_, _, e, _) => type_of(file, locals, e.get()),
-    }
-}
-
-/// Where an expression stands.
-pub(crate) fn span_of<A: Allocator>(e: &Expr<A>) -> Span {
-    match e {
-        Expr::Variable(x) => x.span,
-        Expr::Constant(_, _, span)
-        | Expr::Element(_, _, span)
-        | Expr::Call(_, _, span)
-        | Expr::Parenthesized(_, span)
-        | Expr::Cast(_, _, span)
-        | Expr::Unary(_, _, span)
-        | Expr::Binary(_, _, _, span)
-        | Expr::Logical(_, _, _, span)
-        | Expr::Conditional(_, _, _, span)
-        | Expr::InTransaction(_, _, _, span) => *span,
     }
 }

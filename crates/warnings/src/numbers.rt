@@ -1,11 +1,12 @@
 //! Warnings of numbers: comparisons that always hold, divisors, shifts and indices that are constants.
 
 use crate::constant::constant_of;
-use crate::known::{Body, FileName, FileNames, span_of, type_of};
+use crate::known::{Body, FileName, FileNames, type_of};
 use crate::warning::{Warning, WarningKind};
 use lex::token::{Scalar, Span};
 use std::alloc::{AllocError, Allocator};
 use syntax::number::number;
+use syntax::spans::span_of;
 use syntax::tree::{BinaryOp, Expr, Name};
 use syntax::value::Value;
 

@@ -10,7 +10,7 @@ use Rattle.bytecode.specs.Code.{Configuration}
 use Rattle.machine.specs.Threads.{Thread, access, step_with}
 use Rattle.norec_core.specs.Accesses.{IsAnswerTo, cost, stops}
 use Rattle.machine.specs.Worlds.{Part, part_after}
-use Rattle.machine.specs.NamedCells.{AccessFits}
+use Rattle.machine.specs.NamedCells.{AccessFits, IsMakeable}
 use Rattle.machine.proofs.answers.Answering.{added_grows, local_grows, local_is, paused_more, pauses}
 use Rattle.machine.proofs.answers.Reached.{swaps_even, within}
 use Rattle.machine.proofs.steps.Worlds.{get-set_same}
@@ -24,7 +24,7 @@ use Rattle.shared_words.proofs.Codes.{count_bounds, initial_fits}
 use Rattle.shared_words.specs.Setup.{Setup, IsPartAfter}
 use Rattle.shared_words.specs.inner.Parts.{IsPart}
 use Rattle.shared_words.proofs.Traces.{is_part}
-use Rattle.shared_words.specs.Rule.{IsMakeable, IsNext, IsSeatStep, SeatView, Sits, Took, TookAs, more_heard, reply}
+use Rattle.shared_words.specs.Rule.{IsNext, IsSeatStep, SeatView, Sits, Took, TookAs, more_heard, reply}
 use Rattle.machine.specs.States.{IsWordOf}
 use Rattle.workers.specs.Works.{GoesOnFrom, Works}
 

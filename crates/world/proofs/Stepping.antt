@@ -18,7 +18,7 @@ use Rattle.norec_core.specs.declared.step.Stop.{Stop}
 use Rattle.norec_core.specs.declared.step.Stop.TheVariants.{SequenceUsedUp}
 use Rattle.machine.specs.declared.event.Event.{Event}
 use Rattle.machine.specs.declared.event.StepShown.{StepShown}
-use Rattle.machine.specs.NamedCells.{AccessFits}
+use Rattle.machine.specs.NamedCells.{AccessFits, IsMakeable}
 use Rattle.machine.specs.Answered.{Answered, Heard}
 use Rattle.machine.specs.Explained.{HasLock, IsExplainedBy, IsFree, IsHeld, has_lock}
 use Rattle.machine.specs.Merges.{Entry, IsMerge}
@@ -42,7 +42,7 @@ use Rattle.machine.proofs.tallies.Spans.{counts_by_meaning}
 use Rattle.world.proofs.Cells.{answer_fits, initial_fits, memory_length, word_fits}
 use Rattle.world.specs.Simulations.{CountsAccesses, IsExplained, IsHolder, Simulation, accesses_in, accesses_of, cost_next, earlier, event_at, event_next, further, output_at, shown_at, shown_by, shown_next, part_of, status_at, stops_at, stops_next, world_of}
 use Rattle.world.specs.inner.Costs.{cost_at}
-use Rattle.world.specs.inner.Following.{AreOfParts, IsMakeable, IsOfPart, IsWorldOf}
+use Rattle.world.specs.inner.Following.{AreOfParts, IsOfPart, IsWorldOf}
 
 module _ (code : Code) where
   -- the part of a thread

@@ -3,7 +3,7 @@
 ghost use Rattle.std.specs.Prelude.{◌≡◌, length};
 ghost use Rattle.norec_core.specs.Accesses.{cost as cost_spec};
 ghost use Rattle.machine.specs.Worlds.{answer as answer_spec, lock_after, words_after};
-ghost use Rattle.world.specs.inner.Following.{IsMakeable};
+ghost use Rattle.machine.specs.NamedCells.{IsMakeable};
 
 use norec_core::{Access, Answer};
 use std::alloc::Allocator;

@@ -3,6 +3,7 @@
 use bytecode::{Code, Instr};
 use lex::token::Scalar;
 use std::alloc::Allocator;
+use syntax::tree::BinaryOp;
 use test_codes::{WrittenCode, WrittenVariable, worker};
 
 /// A program of one function over a variable `x`: the function's registers, what `x` begins with, and the instructions.
@@ -14,7 +15,7 @@ pub fn adds() -> Program<'static> {
         Instr::Begin(6),
         Instr::Read(1, 0),
         Instr::Constant(2, 1),
-        Instr::AddSigned(1, 1, 2),
+        Instr::Compute(BinaryOp::Add, Scalar::Int, 1, 1, 2),
         Instr::Write(1, 0),
         Instr::Commit,
         Instr::Return,
@@ -33,13 +34,13 @@ pub fn adds_often(times: u32) -> [Instr; 17] {
         Instr::Begin(11),
         Instr::Read(2, 0),
         Instr::Constant(3, 1),
-        Instr::AddSigned(2, 2, 3),
+        Instr::Compute(BinaryOp::Add, Scalar::Int, 2, 2, 3),
         Instr::Write(2, 0),
         Instr::Commit,
         Instr::Constant(2, 1),
-        Instr::AddSigned(1, 1, 2),
+        Instr::Compute(BinaryOp::Add, Scalar::Int, 1, 1, 2),
         Instr::Constant(2, u64::from(times)),
-        Instr::LessSigned(2, 1, 2),
+        Instr::Compute(BinaryOp::Less, Scalar::Int, 2, 1, 2),
         Instr::JumpNonzero(2, 5),
         Instr::Return,
     ]
@@ -51,7 +52,7 @@ pub fn prints() -> Program<'static> {
         Instr::Begin(10),
         Instr::Read(1, 0),
         Instr::Constant(2, 1),
-        Instr::AddSigned(1, 1, 2),
+        Instr::Compute(BinaryOp::Add, Scalar::Int, 1, 1, 2),
         Instr::Write(1, 0),
         Instr::Irrevocable,
         Instr::Read(1, 0),
@@ -91,7 +92,7 @@ pub fn divides() -> Program<'static> {
     static CODE: [Instr; 7] = [
         Instr::Constant(1, 0),
         Instr::Constant(2, 1),
-        Instr::DivideSigned(1, 2, 0),
+        Instr::Compute(BinaryOp::Divide, Scalar::Int, 1, 2, 0),
         Instr::Begin(6),
         Instr::Write(1, 0),
         Instr::Commit,

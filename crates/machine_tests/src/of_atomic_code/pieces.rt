@@ -1,12 +1,14 @@
 //! A thread carried on in pieces.
 
-use crate::asserted::assert_that;
+use crate::asserted::{assert_no_row, assert_that};
 use crate::of_atomic_code::built::code_of;
 use crate::of_atomic_code::driven::{code_turns, pieces};
 use atomic_code::is_memory;
 use bytecode::{Code, Instr};
+use lex::token::Scalar;
 use std::alloc::Allocator;
 use syntax::thread_end::Status;
+use syntax::tree::BinaryOp;
 
 /// What thread 5 of a worker of these instructions comes to by so many calls, each of so many instructions.
 fn by_calls<A: Allocator + Copy>(
@@ -31,7 +33,7 @@ fn adds_in_a_transaction() -> &'static [Instr] {
         Instr::Write(1, 0),
         Instr::Cancel,
         Instr::Read(2, 0),
-        Instr::AddSigned(1, 1, 2),
+        Instr::Compute(BinaryOp::Add, Scalar::Int, 1, 1, 2),
         Instr::Write(1, 0),
         Instr::Commit,
         Instr::Return,
@@ -53,20 +55,21 @@ fn calls() -> &'static [Calls] {
     &ROWS
 }
 
-/// Whether a worker that adds in a transaction comes to what each of these rows of calls says.
-fn come_to<A: Allocator + Copy>(alloc: A, rows: &[Calls]) -> bool {
-    for (calls, each, word, steps, status) in rows {
+/// The number of the first row of calls by which a worker that adds in a transaction comes to something else.
+fn comes_to_another<A: Allocator + Copy>(alloc: A, rows: &[Calls]) -> Option<usize> {
+    for (number, row) in rows.iter().enumerate() {
+        let (calls, each, word, steps, status) = row;
         let came = by_calls(alloc, adds_in_a_transaction(), *calls, *each);
         if came != Some((*word, *steps, *status)) {
-            return false;
+            return Some(number);
         }
     }
-    true
+    None
 }
 
 #[test]
 fn a_transaction_goes_on_in_its_own_memory(rt: HostRuntime) {
-    assert_that(&rt, come_to(rt.alloc(), calls()));
+    assert_no_row(&rt, comes_to_another(rt.alloc(), calls()));
 }
 
 /// x = x + r0, for ever
@@ -74,7 +77,7 @@ fn adds_for_ever() -> &'static [Instr] {
     static CODE: [Instr; 6] = [
         Instr::Begin(4),
         Instr::Read(1, 0),
-        Instr::AddSigned(1, 1, 0),
+        Instr::Compute(BinaryOp::Add, Scalar::Int, 1, 1, 0),
         Instr::Write(1, 0),
         Instr::Commit,
         Instr::Jump(0),

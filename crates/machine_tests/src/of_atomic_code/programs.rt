@@ -4,8 +4,10 @@ use crate::asserted::{assert_all, assert_that};
 use crate::of_atomic_code::driven::{code_comes_to, code_turns};
 use atomic_code::AtomicEnd;
 use bytecode::Instr;
+use lex::token::Scalar;
 use std::alloc::Allocator;
 use syntax::thread_end::{Status, Trap};
+use syntax::tree::BinaryOp;
 use test_codes::calls_for_ever;
 
 /// What a thread comes to: how many instructions it makes, how it is over, and what it has printed.
@@ -97,8 +99,8 @@ fn sums() -> &'static [Instr] {
         Instr::Constant(2, 1000),
         Instr::Constant(3, 1),
         Instr::JumpZero(2, 6),
-        Instr::AddSigned(1, 1, 2),
-        Instr::SubtractSigned(2, 2, 3),
+        Instr::Compute(BinaryOp::Add, Scalar::Int, 1, 1, 2),
+        Instr::Compute(BinaryOp::Subtract, Scalar::Int, 2, 2, 3),
         Instr::Jump(2),
         Instr::PrintSigned(1),
         Instr::Return,
@@ -132,17 +134,17 @@ fn fibonacci() -> &'static [Instr] {
         Instr::Return,
         // f: adds the number to the cell
         Instr::Constant(1, 2),
-        Instr::LessSigned(2, 0, 1),
+        Instr::Compute(BinaryOp::Less, Scalar::Int, 2, 0, 1),
         Instr::JumpNonzero(2, 16),
         Instr::Constant(1, 1),
-        Instr::SubtractSigned(0, 0, 1),
+        Instr::Compute(BinaryOp::Subtract, Scalar::Int, 0, 0, 1),
         Instr::Call(2, 1, 1, 0),
         Instr::Constant(1, 1),
-        Instr::SubtractSigned(0, 0, 1),
+        Instr::Compute(BinaryOp::Subtract, Scalar::Int, 0, 0, 1),
         Instr::Call(2, 1, 1, 0),
         Instr::Return,
         Instr::Read(1, 0),
-        Instr::AddSigned(1, 1, 0),
+        Instr::Compute(BinaryOp::Add, Scalar::Int, 1, 1, 0),
         Instr::Write(1, 0),
         Instr::Return,
     ];

@@ -3,12 +3,14 @@
 ghost use Rattle.std.specs.Prelude.{◌≡◌, IfOk, IfSome, IsSome, None};
 ghost use Rattle.atomic_code.specs.Threads.{IsAtomicThreadOf};
 
-use crate::asserted::{assert_all, assert_none, assert_that};
+use crate::asserted::{assert_all, assert_no_row, assert_none, assert_that};
 use crate::of_atomic_code::built::code_of;
 use atomic_code::{AtomicThread, is_memory};
 use bytecode::{Code, Instr};
+use lex::token::Scalar;
 use std::alloc::{AllocError, Allocator, Global};
 use syntax::thread_end::{Status, Trap};
+use syntax::tree::BinaryOp;
 use test_memory::{Refusing, growths};
 
 /// Instructions of a worker, and where a function behind it begins, if there is one.
@@ -191,7 +193,7 @@ fn trapped() -> &'static [Rest] {
             (
                 &[
                     Instr::Constant(1, 2_147_483_647),
-                    Instr::AddSigned(1, 1, 0),
+                    Instr::Compute(BinaryOp::Add, Scalar::Int, 1, 1, 0),
                     Instr::Return,
                 ],
                 None,
@@ -201,7 +203,13 @@ fn trapped() -> &'static [Rest] {
             "",
         ),
         (
-            (&[Instr::DivideSigned(1, 0, 1), Instr::Return], None),
+            (
+                &[
+                    Instr::Compute(BinaryOp::Divide, Scalar::Int, 1, 0, 1),
+                    Instr::Return,
+                ],
+                None,
+            ),
             1,
             Some(Status::Trapped(Trap::ZeroDivisor)),
             "",
@@ -230,7 +238,7 @@ fn trapped() -> &'static [Rest] {
             (
                 &[
                     Instr::Constant(1, 32),
-                    Instr::ShiftLeftUnsigned(1, 0, 1),
+                    Instr::Compute(BinaryOp::ShiftLeft, Scalar::Unsigned, 1, 0, 1),
                     Instr::Return,
                 ],
                 None,
@@ -332,14 +340,14 @@ fn turns_so<A: Allocator + Copy>(alloc: A, row: &Turns) -> bool {
     }
 }
 
-/// Whether two turns come to what each of these rows says.
-fn all_turn_so<A: Allocator + Copy>(alloc: A, rows: &[Turns]) -> bool {
-    for row in rows {
+/// The number of the first row of which two turns come to something else.
+fn wrong_turn<A: Allocator + Copy>(alloc: A, rows: &[Turns]) -> Option<usize> {
+    for (number, row) in rows.iter().enumerate() {
         if !turns_so(alloc, row) {
-            return false;
+            return Some(number);
         }
     }
-    true
+    None
 }
 
 fn done() -> &'static [Turns] {
@@ -349,7 +357,7 @@ fn done() -> &'static [Turns] {
             &[
                 Instr::Begin(4),
                 Instr::Read(1, 0),
-                Instr::AddSigned(1, 1, 0),
+                Instr::Compute(BinaryOp::Add, Scalar::Int, 1, 1, 0),
                 Instr::Write(1, 0),
                 Instr::Commit,
                 Instr::PrintSigned(1),
@@ -381,7 +389,7 @@ fn done() -> &'static [Turns] {
             &[
                 Instr::Begin(4),
                 Instr::Read(1, 0),
-                Instr::DivideSigned(1, 0, 1),
+                Instr::Compute(BinaryOp::Divide, Scalar::Int, 1, 0, 1),
                 Instr::Write(1, 0),
                 Instr::Commit,
                 Instr::Jump(0),
@@ -479,12 +487,12 @@ fn too_long() -> &'static [Turns] {
 
 #[test]
 fn turns_leave_what_transactions_do(rt: HostRuntime) {
-    assert_that(&rt, all_turn_so(rt.alloc(), done()));
+    assert_no_row(&rt, wrong_turn(rt.alloc(), done()));
 }
 
 #[test]
 fn a_turn_that_is_too_long_is_none(rt: HostRuntime) {
-    assert_that(&rt, all_turn_so(rt.alloc(), too_long()));
+    assert_no_row(&rt, wrong_turn(rt.alloc(), too_long()));
 }
 
 /// Whether a copy of a thread at rest has its words, and goes on as it does, each over a cell that holds this word, and
@@ -532,7 +540,7 @@ fn adds_in_a_call() -> Written {
         Instr::Return,
         Instr::Begin(9),
         Instr::Read(1, 0),
-        Instr::AddSigned(1, 1, 0),
+        Instr::Compute(BinaryOp::Add, Scalar::Int, 1, 1, 0),
         Instr::Write(1, 0),
         Instr::Commit,
         Instr::ReturnValue(1),
@@ -726,7 +734,13 @@ fn being_over() -> &'static [Pair] {
         ),
         (
             "cause",
-            (&[Instr::DivideSigned(1, 0, 1), Instr::Return], None),
+            (
+                &[
+                    Instr::Compute(BinaryOp::Divide, Scalar::Int, 1, 0, 1),
+                    Instr::Return,
+                ],
+                None,
+            ),
             (&[Instr::Check(0, 5), Instr::Return], None),
             false,
         ),

@@ -1,11 +1,13 @@
 //! Transactions: what they find, leave and give back.
 
-use crate::asserted::assert_that;
+use crate::asserted::assert_no_row;
 use crate::of_atomic_code::driven::code_comes_to;
 use atomic_code::AtomicEnd;
 use bytecode::Instr;
+use lex::token::Scalar;
 use std::alloc::Allocator;
 use syntax::thread_end::Trap;
+use syntax::tree::BinaryOp;
 
 /// Instructions of a worker, and what its thread 5 comes to, whose transaction finds 9 in the one cell: how many it
 /// makes, the word that it leaves, how it is over, and what it has printed.
@@ -23,14 +25,14 @@ fn is_so<A: Allocator + Copy>(alloc: A, row: &Row) -> bool {
     code_comes_to(alloc, instructions, None, 100, text) == Some((steps, left, end, true))
 }
 
-/// Whether a thread comes to what each of these rows says.
-fn are_so<A: Allocator + Copy>(alloc: A, rows: &[Row]) -> bool {
-    for row in rows {
+/// The number of the first row of which a thread comes to something else.
+fn wrong_row<A: Allocator + Copy>(alloc: A, rows: &[Row]) -> Option<usize> {
+    for (number, row) in rows.iter().enumerate() {
         if !is_so(alloc, row) {
-            return false;
+            return Some(number);
         }
     }
-    true
+    None
 }
 
 fn commits() -> &'static [Row] {
@@ -39,7 +41,7 @@ fn commits() -> &'static [Row] {
             &[
                 Instr::Begin(4),
                 Instr::Read(1, 0),
-                Instr::AddSigned(1, 1, 0),
+                Instr::Compute(BinaryOp::Add, Scalar::Int, 1, 1, 0),
                 Instr::Commit,
                 Instr::Return,
             ],
@@ -81,7 +83,7 @@ fn commits() -> &'static [Row] {
 
 #[test]
 fn a_commit_leaves_what_was_written(rt: HostRuntime) {
-    assert_that(&rt, are_so(rt.alloc(), commits()));
+    assert_no_row(&rt, wrong_row(rt.alloc(), commits()));
 }
 
 fn traps() -> &'static [Row] {
@@ -133,7 +135,7 @@ fn traps() -> &'static [Row] {
                 Instr::PrintSigned(0),
                 Instr::Write(0, 0),
                 Instr::Begin(7),
-                Instr::DivideSigned(1, 0, 1),
+                Instr::Compute(BinaryOp::Divide, Scalar::Int, 1, 0, 1),
                 Instr::Commit,
                 Instr::Commit,
                 Instr::Return,
@@ -149,7 +151,7 @@ fn traps() -> &'static [Row] {
 
 #[test]
 fn a_trap_leaves_the_memory_found(rt: HostRuntime) {
-    assert_that(&rt, are_so(rt.alloc(), traps()));
+    assert_no_row(&rt, wrong_row(rt.alloc(), traps()));
 }
 
 fn cancels() -> &'static [Row] {
@@ -170,7 +172,7 @@ fn cancels() -> &'static [Row] {
 
 #[test]
 fn a_cancel_leaves_the_memory_found(rt: HostRuntime) {
-    assert_that(&rt, are_so(rt.alloc(), cancels()));
+    assert_no_row(&rt, wrong_row(rt.alloc(), cancels()));
 }
 
 fn inner_cancels() -> &'static [Row] {
@@ -185,7 +187,7 @@ fn inner_cancels() -> &'static [Row] {
             Instr::Cancel,
             // register 1 and the cell are 2 again
             Instr::Read(2, 0),
-            Instr::AddSigned(1, 1, 2),
+            Instr::Compute(BinaryOp::Add, Scalar::Int, 1, 1, 2),
             Instr::Write(1, 0),
             Instr::Commit,
             Instr::Return,
@@ -200,7 +202,7 @@ fn inner_cancels() -> &'static [Row] {
 
 #[test]
 fn a_cancel_of_an_inner_one_gives_back(rt: HostRuntime) {
-    assert_that(&rt, are_so(rt.alloc(), inner_cancels()));
+    assert_no_row(&rt, wrong_row(rt.alloc(), inner_cancels()));
 }
 
 fn inner_commits() -> &'static [Row] {
@@ -225,7 +227,7 @@ fn inner_commits() -> &'static [Row] {
 
 #[test]
 fn a_commit_of_an_inner_one_keeps(rt: HostRuntime) {
-    assert_that(&rt, are_so(rt.alloc(), inner_commits()));
+    assert_no_row(&rt, wrong_row(rt.alloc(), inner_commits()));
 }
 
 fn late_inner_cancels() -> &'static [Row] {
@@ -251,7 +253,7 @@ fn late_inner_cancels() -> &'static [Row] {
 
 #[test]
 fn an_inner_one_is_cancelled_after_an_irrevocable(rt: HostRuntime) {
-    assert_that(&rt, are_so(rt.alloc(), late_inner_cancels()));
+    assert_no_row(&rt, wrong_row(rt.alloc(), late_inner_cancels()));
 }
 
 /// Threads that do all their instructions at one place, and leave nothing.
@@ -293,5 +295,5 @@ fn standing_still() -> &'static [Row] {
 
 #[test]
 fn what_may_not_be_done_stands_still(rt: HostRuntime) {
-    assert_that(&rt, are_so(rt.alloc(), standing_still()));
+    assert_no_row(&rt, wrong_row(rt.alloc(), standing_still()));
 }

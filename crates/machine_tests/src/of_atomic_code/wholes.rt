@@ -1,11 +1,13 @@
 //! Whole threads.
 
-use crate::asserted::{assert_all, assert_that};
+use crate::asserted::assert_no_row;
 use crate::of_atomic_code::built::code_of;
 use atomic_code::{AtomicThreadEnd, AtomicThreadOutcome, is_memory, thread};
 use bytecode::{Code, Instr};
+use lex::token::Scalar;
 use std::alloc::{AllocError, Global};
 use syntax::thread_end::{Halt, Trap};
+use syntax::tree::BinaryOp;
 
 /// What a thread leaves in the one cell in its first transaction and in its second, how it is found, and whether it has
 /// printed this.
@@ -96,21 +98,22 @@ fn is_so(alloc: Global, code: &Code, row: &Row) -> bool {
     of_code(alloc, code, founds, steps, text) == Some((first, second, end, true))
 }
 
-/// Whether a code's thread comes to all these.
-fn are_so(alloc: Global, code: &Code, rows: &[Row]) -> bool {
-    for row in rows {
+/// The number of the first row of which a code's thread comes to something else.
+fn wrong_row(alloc: Global, code: &Code, rows: &[Row]) -> Option<usize> {
+    for (number, row) in rows.iter().enumerate() {
         if !is_so(alloc, code, row) {
-            return false;
+            return Some(number);
         }
     }
-    true
+    None
 }
 
-/// Whether the thread of a worker of these instructions comes to all these.
-fn comes_to(alloc: Global, instructions: &[Instr], rows: &[Row]) -> bool {
+/// The number of the first row of which the thread of a worker of these instructions comes to something else; of all,
+/// where no code is made of them.
+fn comes_to_another(alloc: Global, instructions: &[Instr], rows: &[Row]) -> Option<usize> {
     match code_of(alloc, instructions, None) {
-        None => false,
-        Some(code) => are_so(alloc, &code, rows),
+        None => Some(0),
+        Some(code) => wrong_row(alloc, &code, rows),
     }
 }
 
@@ -119,7 +122,7 @@ fn loops() -> &'static [Instr] {
     static CODE: [Instr; 7] = [
         Instr::Begin(4),
         Instr::Read(1, 0),
-        Instr::AddSigned(1, 1, 0),
+        Instr::Compute(BinaryOp::Add, Scalar::Int, 1, 1, 0),
         Instr::Write(1, 0),
         Instr::Commit,
         Instr::PrintSigned(1),
@@ -192,7 +195,7 @@ fn loop_rows() -> &'static [Row] {
 
 #[test]
 fn each_transaction_finds_its_memory(rt: HostRuntime) {
-    assert_that(&rt, comes_to(rt.alloc(), loops(), loop_rows()));
+    assert_no_row(&rt, comes_to_another(rt.alloc(), loops(), loop_rows()));
 }
 
 fn ends() -> &'static [Instr] {
@@ -210,7 +213,7 @@ fn traps() -> &'static [Instr] {
     static CODE: [Instr; 5] = [
         Instr::Begin(3),
         Instr::Read(1, 0),
-        Instr::DivideSigned(1, 0, 1),
+        Instr::Compute(BinaryOp::Divide, Scalar::Int, 1, 0, 1),
         Instr::Commit,
         Instr::Jump(0),
     ];
@@ -241,7 +244,6 @@ fn trap_rows() -> &'static [Row] {
 
 #[test]
 fn a_thread_ends_or_traps(rt: HostRuntime) {
-    let ends = comes_to(rt.alloc(), ends(), end_rows());
-    let traps = comes_to(rt.alloc(), traps(), trap_rows());
-    assert_all(&rt, &[("ends", ends), ("traps", traps)]);
+    assert_no_row(&rt, comes_to_another(rt.alloc(), ends(), end_rows()));
+    assert_no_row(&rt, comes_to_another(rt.alloc(), traps(), trap_rows()));
 }

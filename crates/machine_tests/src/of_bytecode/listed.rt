@@ -3,7 +3,9 @@
 use crate::asserted::{assert_none, assert_that};
 use crate::of_bytecode::built::{Function, WORKER, code_of_parts};
 use bytecode::{Code, Instr, listing};
+use lex::token::Scalar;
 use std::alloc::Global;
+use syntax::tree::BinaryOp;
 use test_codes::TEXTS;
 
 /// Whether this is a code's listing, and memory is there.
@@ -112,16 +114,16 @@ fn a_transaction_is_listed(rt: HostRuntime) {
 pub const COMPUTES: [Instr; 18] = [
     Instr::Constant(1, 4294967295),
     Instr::Move(1, 0),
-    Instr::AddSigned(1, 0, 1),
-    Instr::AddUnsigned(1, 0, 1),
-    Instr::SubtractSigned(1, 0, 1),
-    Instr::SubtractUnsigned(1, 0, 1),
-    Instr::MultiplySigned(1, 0, 1),
-    Instr::MultiplyUnsigned(1, 0, 1),
-    Instr::DivideSigned(1, 0, 1),
-    Instr::DivideUnsigned(1, 0, 1),
-    Instr::RemainderSigned(1, 0, 1),
-    Instr::RemainderUnsigned(1, 0, 1),
+    Instr::Compute(BinaryOp::Add, Scalar::Int, 1, 0, 1),
+    Instr::Compute(BinaryOp::Add, Scalar::Unsigned, 1, 0, 1),
+    Instr::Compute(BinaryOp::Subtract, Scalar::Int, 1, 0, 1),
+    Instr::Compute(BinaryOp::Subtract, Scalar::Unsigned, 1, 0, 1),
+    Instr::Compute(BinaryOp::Multiply, Scalar::Int, 1, 0, 1),
+    Instr::Compute(BinaryOp::Multiply, Scalar::Unsigned, 1, 0, 1),
+    Instr::Compute(BinaryOp::Divide, Scalar::Int, 1, 0, 1),
+    Instr::Compute(BinaryOp::Divide, Scalar::Unsigned, 1, 0, 1),
+    Instr::Compute(BinaryOp::Remainder, Scalar::Int, 1, 0, 1),
+    Instr::Compute(BinaryOp::Remainder, Scalar::Unsigned, 1, 0, 1),
     Instr::NegateSigned(1, 0),
     Instr::NegateUnsigned(1, 0),
     Instr::Complement(1, 0),
@@ -153,19 +155,19 @@ const COMPUTES_LISTED: &str = "function worker registers 2
 
 /// Instructions on bits, and comparisons.
 pub const BITS: [Instr; 14] = [
-    Instr::ShiftLeftSigned(1, 0, 1),
-    Instr::ShiftLeftUnsigned(1, 0, 1),
-    Instr::ShiftRightSigned(1, 0, 1),
-    Instr::ShiftRightUnsigned(1, 0, 1),
-    Instr::And(1, 0, 1),
-    Instr::Or(1, 0, 1),
-    Instr::Xor(1, 0, 1),
-    Instr::Equal(1, 0, 1),
-    Instr::NotEqual(1, 0, 1),
-    Instr::LessSigned(1, 0, 1),
-    Instr::LessUnsigned(1, 0, 1),
-    Instr::LessEqualSigned(1, 0, 1),
-    Instr::LessEqualUnsigned(1, 0, 1),
+    Instr::Compute(BinaryOp::ShiftLeft, Scalar::Int, 1, 0, 1),
+    Instr::Compute(BinaryOp::ShiftLeft, Scalar::Unsigned, 1, 0, 1),
+    Instr::Compute(BinaryOp::ShiftRight, Scalar::Int, 1, 0, 1),
+    Instr::Compute(BinaryOp::ShiftRight, Scalar::Unsigned, 1, 0, 1),
+    Instr::Compute(BinaryOp::And, Scalar::Unsigned, 1, 0, 1),
+    Instr::Compute(BinaryOp::Or, Scalar::Unsigned, 1, 0, 1),
+    Instr::Compute(BinaryOp::Xor, Scalar::Unsigned, 1, 0, 1),
+    Instr::Compute(BinaryOp::Equal, Scalar::Unsigned, 1, 0, 1),
+    Instr::Compute(BinaryOp::NotEqual, Scalar::Unsigned, 1, 0, 1),
+    Instr::Compute(BinaryOp::Less, Scalar::Int, 1, 0, 1),
+    Instr::Compute(BinaryOp::Less, Scalar::Unsigned, 1, 0, 1),
+    Instr::Compute(BinaryOp::LessEqual, Scalar::Int, 1, 0, 1),
+    Instr::Compute(BinaryOp::LessEqual, Scalar::Unsigned, 1, 0, 1),
     Instr::Return,
 ];
 
@@ -188,15 +190,15 @@ const BITS_LISTED: &str = "function worker registers 2
 
 /// Instructions of `long long`, and what makes one type's words of the other's.
 pub const LONGS: [Instr; 15] = [
-    Instr::AddLong(1, 0, 1),
-    Instr::SubtractLong(1, 0, 1),
-    Instr::MultiplyLong(1, 0, 1),
-    Instr::DivideLong(1, 0, 1),
-    Instr::RemainderLong(1, 0, 1),
-    Instr::ShiftLeftLong(1, 0, 1),
-    Instr::ShiftRightLong(1, 0, 1),
-    Instr::LessLong(1, 0, 1),
-    Instr::LessEqualLong(1, 0, 1),
+    Instr::Compute(BinaryOp::Add, Scalar::LongLong, 1, 0, 1),
+    Instr::Compute(BinaryOp::Subtract, Scalar::LongLong, 1, 0, 1),
+    Instr::Compute(BinaryOp::Multiply, Scalar::LongLong, 1, 0, 1),
+    Instr::Compute(BinaryOp::Divide, Scalar::LongLong, 1, 0, 1),
+    Instr::Compute(BinaryOp::Remainder, Scalar::LongLong, 1, 0, 1),
+    Instr::Compute(BinaryOp::ShiftLeft, Scalar::LongLong, 1, 0, 1),
+    Instr::Compute(BinaryOp::ShiftRight, Scalar::LongLong, 1, 0, 1),
+    Instr::Compute(BinaryOp::Less, Scalar::LongLong, 1, 0, 1),
+    Instr::Compute(BinaryOp::LessEqual, Scalar::LongLong, 1, 0, 1),
     Instr::NegateLong(1, 0),
     Instr::ComplementLong(1, 0),
     Instr::Extend(1, 0),
@@ -309,8 +311,8 @@ pub const LOOPING: Function<'static> = ("worker", 0, 5, 1);
 
 /// The end of a loop's turn.
 pub const TURN: [Instr; 4] = [
-    Instr::AddSigned(1, 1, 2),
-    Instr::LessSigned(3, 1, 4),
+    Instr::Compute(BinaryOp::Add, Scalar::Int, 1, 1, 2),
+    Instr::Compute(BinaryOp::Less, Scalar::Int, 3, 1, 4),
     Instr::JumpNonzero(3, 0),
     Instr::Return,
 ];
@@ -324,9 +326,9 @@ const TURN_LISTED: &str = "function worker registers 5
 
 /// The end of a loop's turn with a sum before it.
 pub const SUMMED: [Instr; 5] = [
-    Instr::AddSigned(0, 0, 3),
-    Instr::AddSigned(1, 1, 2),
-    Instr::LessSigned(3, 1, 4),
+    Instr::Compute(BinaryOp::Add, Scalar::Int, 0, 0, 3),
+    Instr::Compute(BinaryOp::Add, Scalar::Int, 1, 1, 2),
+    Instr::Compute(BinaryOp::Less, Scalar::Int, 3, 1, 4),
     Instr::JumpNonzero(3, 0),
     Instr::Return,
 ];
@@ -341,10 +343,10 @@ const SUMMED_LISTED: &str = "function worker registers 5
 
 /// Sums behind which no loop's turn ends.
 pub const OTHER_SUMS: [Instr; 5] = [
-    Instr::AddSigned(1, 1, 2),
-    Instr::LessSigned(3, 1, 4),
-    Instr::AddSigned(0, 0, 3),
-    Instr::AddSigned(7, 7, 2),
+    Instr::Compute(BinaryOp::Add, Scalar::Int, 1, 1, 2),
+    Instr::Compute(BinaryOp::Less, Scalar::Int, 3, 1, 4),
+    Instr::Compute(BinaryOp::Add, Scalar::Int, 0, 0, 3),
+    Instr::Compute(BinaryOp::Add, Scalar::Int, 7, 7, 2),
     Instr::Return,
 ];
 

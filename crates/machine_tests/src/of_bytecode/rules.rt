@@ -3,7 +3,9 @@
 use crate::asserted::{assert_all, assert_none};
 use crate::of_bytecode::built::{Function, WORKER, global, is_valid, of, of_functions, parts_over};
 use bytecode::{Instr, MOST_CELLS, Parts};
+use lex::token::Scalar;
 use std::alloc::{AllocError, Global};
+use syntax::tree::BinaryOp;
 
 /// What is tried, the functions, the registers that calls hand over, the instructions, and whether they are valid.
 type Row = (
@@ -73,9 +75,9 @@ fn not_there() -> &'static [Instr] {
     static NOT_THERE: [Instr; 22] = [
         Instr::Constant(2, 0),
         Instr::Move(0, 2),
-        Instr::AddSigned(2, 0, 0),
-        Instr::DivideUnsigned(0, 2, 0),
-        Instr::LessSigned(0, 0, 2),
+        Instr::Compute(BinaryOp::Add, Scalar::Int, 2, 0, 0),
+        Instr::Compute(BinaryOp::Divide, Scalar::Unsigned, 0, 2, 0),
+        Instr::Compute(BinaryOp::Less, Scalar::Int, 0, 0, 2),
         Instr::NegateSigned(2, 0),
         Instr::NegateUnsigned(0, 2),
         Instr::Complement(0, 2),

@@ -5,8 +5,10 @@ use crate::built::{code_of_two, code_of_worker};
 use crate::of_frames::carried::run;
 use bytecode::{Code, Instr};
 use frames::Doing;
+use lex::token::Scalar;
 use std::alloc::Allocator;
 use syntax::thread_end::Trap;
+use syntax::tree::BinaryOp;
 use test_codes::calls_for_ever;
 
 /// What thread 5 comes to, its local steps and its first two registers.
@@ -89,22 +91,42 @@ fn are_computed<A: Allocator + Copy>(alloc: A, rows: &[Computed]) -> bool {
 
 fn sums() -> &'static [Computed] {
     static ROWS: [Computed; 6] = [
-        (2147483646, 1, Instr::AddSigned(1, 2, 3), Ok(2147483647)),
+        (
+            2147483646,
+            1,
+            Instr::Compute(BinaryOp::Add, Scalar::Int, 1, 2, 3),
+            Ok(2147483647),
+        ),
         (
             2147483647,
             1,
-            Instr::AddSigned(1, 2, 3),
+            Instr::Compute(BinaryOp::Add, Scalar::Int, 1, 2, 3),
             Err(Trap::OutOfRange),
         ),
-        (4294967295, 1, Instr::AddUnsigned(1, 2, 3), Ok(0)),
-        (3, 5, Instr::SubtractSigned(1, 2, 3), Ok(4294967294)),
+        (
+            4294967295,
+            1,
+            Instr::Compute(BinaryOp::Add, Scalar::Unsigned, 1, 2, 3),
+            Ok(0),
+        ),
+        (
+            3,
+            5,
+            Instr::Compute(BinaryOp::Subtract, Scalar::Int, 1, 2, 3),
+            Ok(4294967294),
+        ),
         (
             2147483648,
             1,
-            Instr::SubtractSigned(1, 2, 3),
+            Instr::Compute(BinaryOp::Subtract, Scalar::Int, 1, 2, 3),
             Err(Trap::OutOfRange),
         ),
-        (0, 1, Instr::SubtractUnsigned(1, 2, 3), Ok(4294967295)),
+        (
+            0,
+            1,
+            Instr::Compute(BinaryOp::Subtract, Scalar::Unsigned, 1, 2, 3),
+            Ok(4294967295),
+        ),
     ];
     &ROWS
 }
@@ -114,20 +136,25 @@ fn products() -> &'static [Computed] {
         (
             65536,
             32768,
-            Instr::MultiplySigned(1, 2, 3),
+            Instr::Compute(BinaryOp::Multiply, Scalar::Int, 1, 2, 3),
             Err(Trap::OutOfRange),
         ),
         (
             4294967294,
             3,
-            Instr::MultiplySigned(1, 2, 3),
+            Instr::Compute(BinaryOp::Multiply, Scalar::Int, 1, 2, 3),
             Ok(4294967290),
         ),
-        (65536, 65536, Instr::MultiplyUnsigned(1, 2, 3), Ok(0)),
+        (
+            65536,
+            65536,
+            Instr::Compute(BinaryOp::Multiply, Scalar::Unsigned, 1, 2, 3),
+            Ok(0),
+        ),
         (
             4294967295,
             4294967295,
-            Instr::MultiplyUnsigned(1, 2, 3),
+            Instr::Compute(BinaryOp::Multiply, Scalar::Unsigned, 1, 2, 3),
             Ok(1),
         ),
     ];
@@ -143,34 +170,54 @@ fn sums_differences_and_products(rt: HostRuntime) {
 
 fn quotients() -> &'static [Computed] {
     static ROWS: [Computed; 8] = [
-        (4294967289, 2, Instr::DivideSigned(1, 2, 3), Ok(4294967293)),
+        (
+            4294967289,
+            2,
+            Instr::Compute(BinaryOp::Divide, Scalar::Int, 1, 2, 3),
+            Ok(4294967293),
+        ),
         (
             2147483648,
             4294967295,
-            Instr::DivideSigned(1, 2, 3),
+            Instr::Compute(BinaryOp::Divide, Scalar::Int, 1, 2, 3),
             Err(Trap::OutOfRange),
         ),
-        (1, 0, Instr::DivideSigned(1, 2, 3), Err(Trap::ZeroDivisor)),
+        (
+            1,
+            0,
+            Instr::Compute(BinaryOp::Divide, Scalar::Int, 1, 2, 3),
+            Err(Trap::ZeroDivisor),
+        ),
         (
             4294967289,
             2,
-            Instr::DivideUnsigned(1, 2, 3),
+            Instr::Compute(BinaryOp::Divide, Scalar::Unsigned, 1, 2, 3),
             Ok(2147483644),
         ),
-        (1, 0, Instr::DivideUnsigned(1, 2, 3), Err(Trap::ZeroDivisor)),
+        (
+            1,
+            0,
+            Instr::Compute(BinaryOp::Divide, Scalar::Unsigned, 1, 2, 3),
+            Err(Trap::ZeroDivisor),
+        ),
         (
             4294967289,
             2,
-            Instr::RemainderSigned(1, 2, 3),
+            Instr::Compute(BinaryOp::Remainder, Scalar::Int, 1, 2, 3),
             Ok(4294967295),
         ),
         (
             2147483648,
             4294967295,
-            Instr::RemainderSigned(1, 2, 3),
+            Instr::Compute(BinaryOp::Remainder, Scalar::Int, 1, 2, 3),
             Err(Trap::OutOfRange),
         ),
-        (4294967289, 2, Instr::RemainderUnsigned(1, 2, 3), Ok(1)),
+        (
+            4294967289,
+            2,
+            Instr::Compute(BinaryOp::Remainder, Scalar::Unsigned, 1, 2, 3),
+            Ok(1),
+        ),
     ];
     &ROWS
 }
@@ -180,27 +227,37 @@ fn shifts() -> &'static [Computed] {
         (
             1,
             31,
-            Instr::ShiftLeftSigned(1, 2, 3),
+            Instr::Compute(BinaryOp::ShiftLeft, Scalar::Int, 1, 2, 3),
             Err(Trap::OutOfRange),
         ),
-        (1, 30, Instr::ShiftLeftSigned(1, 2, 3), Ok(1073741824)),
-        (3, 31, Instr::ShiftLeftUnsigned(1, 2, 3), Ok(2147483648)),
+        (
+            1,
+            30,
+            Instr::Compute(BinaryOp::ShiftLeft, Scalar::Int, 1, 2, 3),
+            Ok(1073741824),
+        ),
+        (
+            3,
+            31,
+            Instr::Compute(BinaryOp::ShiftLeft, Scalar::Unsigned, 1, 2, 3),
+            Ok(2147483648),
+        ),
         (
             1,
             32,
-            Instr::ShiftLeftUnsigned(1, 2, 3),
+            Instr::Compute(BinaryOp::ShiftLeft, Scalar::Unsigned, 1, 2, 3),
             Err(Trap::ShiftCount),
         ),
         (
             4294967288,
             1,
-            Instr::ShiftRightSigned(1, 2, 3),
+            Instr::Compute(BinaryOp::ShiftRight, Scalar::Int, 1, 2, 3),
             Ok(4294967292),
         ),
         (
             4294967288,
             1,
-            Instr::ShiftRightUnsigned(1, 2, 3),
+            Instr::Compute(BinaryOp::ShiftRight, Scalar::Unsigned, 1, 2, 3),
             Ok(2147483644),
         ),
     ];
@@ -216,9 +273,24 @@ fn quotients_rests_and_shifts(rt: HostRuntime) {
 
 fn bits() -> &'static [Computed] {
     static ROWS: [Computed; 8] = [
-        (12, 10, Instr::And(1, 2, 3), Ok(8)),
-        (12, 10, Instr::Or(1, 2, 3), Ok(14)),
-        (12, 10, Instr::Xor(1, 2, 3), Ok(6)),
+        (
+            12,
+            10,
+            Instr::Compute(BinaryOp::And, Scalar::Unsigned, 1, 2, 3),
+            Ok(8),
+        ),
+        (
+            12,
+            10,
+            Instr::Compute(BinaryOp::Or, Scalar::Unsigned, 1, 2, 3),
+            Ok(14),
+        ),
+        (
+            12,
+            10,
+            Instr::Compute(BinaryOp::Xor, Scalar::Unsigned, 1, 2, 3),
+            Ok(6),
+        ),
         (5, 0, Instr::NegateSigned(1, 2), Ok(4294967291)),
         (
             2147483648,
@@ -236,18 +308,28 @@ fn bits() -> &'static [Computed] {
 /// Instructions of narrow types see what lies in a register modulo 2^32, but a shift's count whole.
 fn narrow_of_wide() -> &'static [Computed] {
     static ROWS: [Computed; 13] = [
-        (4294967301, 1, Instr::AddSigned(1, 2, 3), Ok(6)),
-        (4294967296, 1, Instr::LessUnsigned(1, 2, 3), Ok(1)),
+        (
+            4294967301,
+            1,
+            Instr::Compute(BinaryOp::Add, Scalar::Int, 1, 2, 3),
+            Ok(6),
+        ),
+        (
+            4294967296,
+            1,
+            Instr::Compute(BinaryOp::Less, Scalar::Unsigned, 1, 2, 3),
+            Ok(1),
+        ),
         (
             7,
             4294967296,
-            Instr::DivideSigned(1, 2, 3),
+            Instr::Compute(BinaryOp::Divide, Scalar::Int, 1, 2, 3),
             Err(Trap::ZeroDivisor),
         ),
         (
             1,
             4294967297,
-            Instr::ShiftLeftSigned(1, 2, 3),
+            Instr::Compute(BinaryOp::ShiftLeft, Scalar::Int, 1, 2, 3),
             Err(Trap::ShiftCount),
         ),
         (1099511627776, 0, Instr::Complement(1, 2), Ok(4294967295)),
@@ -260,22 +342,27 @@ fn narrow_of_wide() -> &'static [Computed] {
         (
             4294967303,
             8589934596,
-            Instr::RemainderUnsigned(1, 2, 3),
+            Instr::Compute(BinaryOp::Remainder, Scalar::Unsigned, 1, 2, 3),
             Ok(3),
         ),
         (
             4294967296,
             1,
-            Instr::SubtractUnsigned(1, 2, 3),
+            Instr::Compute(BinaryOp::Subtract, Scalar::Unsigned, 1, 2, 3),
             Ok(4294967295),
         ),
-        (1, 4294967297, Instr::Equal(1, 2, 3), Ok(0)),
+        (
+            1,
+            4294967297,
+            Instr::Compute(BinaryOp::Equal, Scalar::Unsigned, 1, 2, 3),
+            Ok(0),
+        ),
         (6442450944, 0, Instr::Extend(1, 2), Ok(18446744071562067968)),
         (6442450944, 0, Instr::Low(1, 2), Ok(2147483648)),
         (
             9223372036854775808,
             18446744073709551615,
-            Instr::MultiplyLong(1, 2, 3),
+            Instr::Compute(BinaryOp::Multiply, Scalar::LongLong, 1, 2, 3),
             Err(Trap::OutOfRange),
         ),
         (5, 0, Instr::ComplementLong(1, 2), Ok(18446744073709551610)),
@@ -290,12 +377,42 @@ fn narrow_instructions_see_32_bits(rt: HostRuntime) {
 
 fn comparisons() -> &'static [Computed] {
     static ROWS: [Computed; 6] = [
-        (12, 12, Instr::Equal(1, 2, 3), Ok(1)),
-        (12, 12, Instr::NotEqual(1, 2, 3), Ok(0)),
-        (4294967295, 1, Instr::LessSigned(1, 2, 3), Ok(1)),
-        (4294967295, 1, Instr::LessUnsigned(1, 2, 3), Ok(0)),
-        (1, 1, Instr::LessEqualSigned(1, 2, 3), Ok(1)),
-        (1, 4294967295, Instr::LessEqualUnsigned(1, 2, 3), Ok(1)),
+        (
+            12,
+            12,
+            Instr::Compute(BinaryOp::Equal, Scalar::Unsigned, 1, 2, 3),
+            Ok(1),
+        ),
+        (
+            12,
+            12,
+            Instr::Compute(BinaryOp::NotEqual, Scalar::Unsigned, 1, 2, 3),
+            Ok(0),
+        ),
+        (
+            4294967295,
+            1,
+            Instr::Compute(BinaryOp::Less, Scalar::Int, 1, 2, 3),
+            Ok(1),
+        ),
+        (
+            4294967295,
+            1,
+            Instr::Compute(BinaryOp::Less, Scalar::Unsigned, 1, 2, 3),
+            Ok(0),
+        ),
+        (
+            1,
+            1,
+            Instr::Compute(BinaryOp::LessEqual, Scalar::Int, 1, 2, 3),
+            Ok(1),
+        ),
+        (
+            1,
+            4294967295,
+            Instr::Compute(BinaryOp::LessEqual, Scalar::Unsigned, 1, 2, 3),
+            Ok(1),
+        ),
     ];
     &ROWS
 }
@@ -314,12 +431,27 @@ fn wide_constants() -> &'static [Computed] {
         (
             18446744073709551615,
             18446744073709551614,
-            Instr::And(1, 2, 3),
+            Instr::Compute(BinaryOp::And, Scalar::Unsigned, 1, 2, 3),
             Ok(18446744073709551614),
         ),
-        (4294967296, 2, Instr::Or(1, 2, 3), Ok(4294967298)),
-        (4294967296, 8589934592, Instr::Equal(1, 2, 3), Ok(0)),
-        (4294967297, 1, Instr::AddUnsigned(1, 2, 3), Ok(2)),
+        (
+            4294967296,
+            2,
+            Instr::Compute(BinaryOp::Or, Scalar::Unsigned, 1, 2, 3),
+            Ok(4294967298),
+        ),
+        (
+            4294967296,
+            8589934592,
+            Instr::Compute(BinaryOp::Equal, Scalar::Unsigned, 1, 2, 3),
+            Ok(0),
+        ),
+        (
+            4294967297,
+            1,
+            Instr::Compute(BinaryOp::Add, Scalar::Unsigned, 1, 2, 3),
+            Ok(2),
+        ),
     ];
     &ROWS
 }

@@ -8,8 +8,10 @@ use crate::built::code_of_worker;
 use crate::of_frames::carried::first;
 use bytecode::{Code, Instr};
 use frames::Frames;
+use lex::token::Scalar;
 use local_steps::NoAccess;
 use std::alloc::Allocator;
+use syntax::tree::BinaryOp;
 
 /// What a code is called, its instructions, and how many steps it makes before it pauses; register 0 is at first the
 /// thread's number, 5.
@@ -75,8 +77,8 @@ fn is_so<A: Allocator + Copy>(alloc: A, row: &Row) -> bool {
 const COUNTS: [Instr; 6] = [
     Instr::Constant(1, 0),
     Instr::Constant(2, 1),
-    Instr::AddSigned(1, 1, 2),
-    Instr::LessSigned(3, 1, 0),
+    Instr::Compute(BinaryOp::Add, Scalar::Int, 1, 1, 2),
+    Instr::Compute(BinaryOp::Less, Scalar::Int, 3, 1, 0),
     Instr::JumpNonzero(3, 2),
     Instr::Return,
 ];
@@ -86,17 +88,17 @@ const SUMS: [Instr; 8] = [
     Instr::Constant(1, 0),
     Instr::Constant(2, 1),
     Instr::Constant(3, 7),
-    Instr::AddSigned(3, 3, 3),
-    Instr::AddSigned(1, 1, 2),
-    Instr::LessSigned(3, 1, 0),
+    Instr::Compute(BinaryOp::Add, Scalar::Int, 3, 3, 3),
+    Instr::Compute(BinaryOp::Add, Scalar::Int, 1, 1, 2),
+    Instr::Compute(BinaryOp::Less, Scalar::Int, 3, 1, 0),
     Instr::JumpNonzero(3, 3),
     Instr::Return,
 ];
 
 const DOUBLES: [Instr; 5] = [
     Instr::Constant(1, 1),
-    Instr::AddSigned(1, 1, 1),
-    Instr::LessSigned(3, 1, 0),
+    Instr::Compute(BinaryOp::Add, Scalar::Int, 1, 1, 1),
+    Instr::Compute(BinaryOp::Less, Scalar::Int, 3, 1, 0),
     Instr::JumpNonzero(3, 1),
     Instr::Return,
 ];
@@ -105,8 +107,8 @@ const DOUBLES: [Instr; 5] = [
 const ADDS_ITS_FLAG: [Instr; 6] = [
     Instr::Constant(1, 0),
     Instr::Constant(3, 4),
-    Instr::AddSigned(1, 1, 3),
-    Instr::LessSigned(3, 1, 0),
+    Instr::Compute(BinaryOp::Add, Scalar::Int, 1, 1, 3),
+    Instr::Compute(BinaryOp::Less, Scalar::Int, 3, 1, 0),
     Instr::JumpNonzero(3, 2),
     Instr::Return,
 ];
@@ -115,8 +117,8 @@ const ADDS_ITS_FLAG: [Instr; 6] = [
 const NEVER: [Instr; 6] = [
     Instr::Constant(1, 0),
     Instr::Constant(2, 1),
-    Instr::AddSigned(1, 1, 2),
-    Instr::LessSigned(3, 1, 1),
+    Instr::Compute(BinaryOp::Add, Scalar::Int, 1, 1, 2),
+    Instr::Compute(BinaryOp::Less, Scalar::Int, 3, 1, 1),
     Instr::JumpNonzero(3, 2),
     Instr::Return,
 ];
@@ -126,8 +128,8 @@ const TRAPS: [Instr; 7] = [
     Instr::Constant(0, 2147483647),
     Instr::Constant(1, 500),
     Instr::Constant(2, 2147483000),
-    Instr::AddSigned(1, 1, 2),
-    Instr::LessSigned(3, 1, 0),
+    Instr::Compute(BinaryOp::Add, Scalar::Int, 1, 1, 2),
+    Instr::Compute(BinaryOp::Less, Scalar::Int, 3, 1, 0),
     Instr::JumpNonzero(3, 3),
     Instr::Return,
 ];
@@ -137,9 +139,9 @@ const TRAPS_BEHIND: [Instr; 8] = [
     Instr::Constant(1, 2147483647),
     Instr::Constant(2, 1),
     Instr::Constant(3, 7),
-    Instr::AddSigned(3, 3, 3),
-    Instr::AddSigned(1, 1, 2),
-    Instr::LessSigned(3, 1, 0),
+    Instr::Compute(BinaryOp::Add, Scalar::Int, 3, 3, 3),
+    Instr::Compute(BinaryOp::Add, Scalar::Int, 1, 1, 2),
+    Instr::Compute(BinaryOp::Less, Scalar::Int, 3, 1, 0),
     Instr::JumpNonzero(3, 3),
     Instr::Return,
 ];

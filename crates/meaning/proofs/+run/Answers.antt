@@ -11,7 +11,8 @@ use Rattle.syntax.specs.Meaning as meaning
 use Rattle.syntax.specs.Meaning.{expr, exprs, stmt, simple, declare, in_scope, turns}
 use Rattle.meaning.specs.inner.Calls.{begun_in}
 use Rattle.meaning.specs.Outcomes.{memories_in}
-use Rattle.meaning.specs.inner.SourceThread.{context_in, completion_of, items_in, local_in, program_in, lvalue_of, state_in}
+use Rattle.meaning.specs.inner.SourceThread.{context_in, completion_of, items_in, local_in, lvalue_of, state_in}
+use Rattle.program_tables.specs.Views.{program_in}
 use Rattle.meaning.specs.inner.Does.{caller_in, does_expr, does_stmt, does_stmts, does_turn, do_turn, else_depth, does_body, depth_within, for_all, is_forbidden, joined_to, loop_depth, while_turn}
 use Rattle.meaning.specs.inner.Word.{value_of}
 use Rattle.meaning.proofs.Calling.{called}

@@ -3,7 +3,8 @@ use Rattle.syntax.specs.Views.{expr_of, exprs_of, simple_of, start_of, stmt_of, 
 use Rattle.syntax.specs.Depth.{expr_depth, deepest, optional_depth, simple_depth, optional_simple_depth, deepest_value, start_depth, stmt_depth, block_depth}
 use Rattle.syntax.specs.Actions.{go_on}
 use Rattle.syntax.specs.Meaning.{turns, exprs, declare}
-use Rattle.meaning.specs.inner.SourceThread.{program_in, state_in}
+use Rattle.meaning.specs.inner.SourceThread.{state_in}
+use Rattle.program_tables.specs.Views.{program_in}
 use Rattle.meaning.specs.inner.Does.{weight, loop_depth, depth_within, else_depth, head_depth, caller_in, does_stmts, does_turn, joined_to}
 use Rattle.meaning.proofs.+run.Given as goal
 

@@ -18,12 +18,13 @@ use Rattle.syntax.specs.Meaning.{for_condition}
 use Rattle.syntax.specs.Meaning.{optional_step}
 use Rattle.syntax.specs.Meaning.{first_value, InLocal, start_with, loop, Returns}
 use Rattle.meaning.specs.declared.source_thread.StmtCompletion.{StmtCompletion as OwnCompletion}
-use Rattle.meaning.specs.declared.program.ProgramTables.{ProgramTables}
+use Rattle.program_tables.specs.declared.program.ProgramTables.{ProgramTables}
 use Rattle.meaning.specs.declared.loops.Loop.{Loop}
 use Rattle.meaning.specs.declared.loops.Loop.TheVariants as kind
 use Rattle.meaning.specs.declared.transactions.Body.{Body}
 use Rattle.meaning.specs.declared.transactions.Body.TheVariants as body
-use Rattle.meaning.specs.inner.SourceThread.{program_in, completion_of}
+use Rattle.meaning.specs.inner.SourceThread.{completion_of}
+use Rattle.program_tables.specs.Views.{program_in}
 use Rattle.std.specs.Prelude.{◌+◌, ◌*◌, max, Bool, true, false, [], ◌∷◌, ◌++◌, length}
 
 -- one of two statements, or of one and nothing

@@ -19,8 +19,9 @@ use Rattle.meaning.specs.declared.loops.Loop.{Loop}
 use Rattle.meaning.specs.declared.loops.Loop.TheVariants as kind
 use Rattle.meaning.specs.declared.source_thread.Halted.{Halted}
 use Rattle.meaning.specs.declared.source_thread.SourceThread.{SourceThread}
-use Rattle.meaning.specs.declared.program.ProgramTables.{ProgramTables}
-use Rattle.meaning.specs.inner.SourceThread.{MeansAs, completion_of, items_in, program_in}
+use Rattle.program_tables.specs.declared.program.ProgramTables.{ProgramTables}
+use Rattle.meaning.specs.inner.SourceThread.{MeansAs, completion_of, items_in}
+use Rattle.program_tables.specs.Views.{program_in}
 use Rattle.meaning.specs.inner.Does.{caller_in, does_stmts, if_of}
 use Rattle.meaning.specs.inner.Going.{Follow, Ends, Goes, Nests, drop_names, call_left, when_next, scope_begun}
 use Rattle.meaning.specs.inner.Going.{loop_begun}

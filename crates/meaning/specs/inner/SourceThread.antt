@@ -13,7 +13,6 @@ use Rattle.meaning.specs.Outcomes.{memories_in}
 use Rattle.syntax.specs.Meaning as Meaning
 use Rattle.meaning.specs.declared.source_thread.Local.{Local}
 use Rattle.meaning.specs.declared.source_thread.SourceThread.{SourceThread}
-use Rattle.meaning.specs.declared.program.ProgramTables.{ProgramTables}
 use Rattle.meaning.specs.declared.source_thread.Context.{Context}
 use Rattle.meaning.specs.declared.source_thread.Halted.{Halted}
 use Rattle.meaning.specs.declared.source_thread.Context.TheVariants as context
@@ -71,9 +70,6 @@ module _ {A : Type 0} where
     context = context_in m.context;
     text = m.text.items;
   }
-
-  abbrev pub program_in : ProgramTables A → Program
-  program_in source = program_of source.unit.now
 
   abbrev pub IsDone : {X : Type 0} → Result X Halted → SourceThread A → Type 0
   IsDone (Ok x) m = Unit {0}

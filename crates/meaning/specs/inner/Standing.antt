@@ -11,7 +11,7 @@ use Rattle.meaning.specs.declared.standing.StandingThread.{StandingThread}
 use Rattle.meaning.specs.declared.standing.StoppedThread.{StoppedThread}
 use Rattle.meaning.specs.declared.standing.Gone.{Gone}
 use Rattle.meaning.specs.declared.standing.Gone.TheVariants as gone
-use Rattle.meaning.specs.declared.program.ProgramTables.{ProgramTables}
+use Rattle.program_tables.specs.declared.program.ProgramTables.{ProgramTables}
 use Rattle.meaning.specs.inner.SourceThread.{completion_of, items_in}
 use Rattle.meaning.specs.Frames.{StateExtension, extended_state}
 use Rattle.meaning.specs.inner.Going.{Follow}

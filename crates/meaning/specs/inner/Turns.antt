@@ -6,8 +6,8 @@ use Rattle.syntax.specs.Behaviours.{Memory, Behaviour, Outcome, Stopped}
 use Rattle.syntax.specs.Orders.{Progress, last_left}
 use Rattle.syntax.specs.Threads.{first_state, thread, worker_run}
 use Rattle.meaning.specs.Outcomes.{memories_in, thread_end_in}
-use Rattle.meaning.specs.declared.program.ProgramTables.{ProgramTables}
-use Rattle.meaning.specs.inner.SourceThread.{program_in}
+use Rattle.program_tables.specs.declared.program.ProgramTables.{ProgramTables}
+use Rattle.program_tables.specs.Views.{program_in}
 use Rattle.meaning.specs.inner.Standing.{rest}
 use Rattle.meaning.specs.declared.orders.Standing.{Standing}
 use Rattle.meaning.specs.declared.orders.OrderProgress.{OrderProgress}

@@ -6,7 +6,7 @@ use Rattle.std.proofs.lemmas.List.{length-append}
 use Rattle.lex.specs.declared.token.Scalar.{Scalar}
 use Rattle.lex.specs.declared.token.Scalar.TheVariants.{Int, Unsigned, LongLong}
 use Rattle.syntax.specs.declared.tree.BinaryOp.{BinaryOp}
-use Rattle.syntax.specs.declared.tree.BinaryOp.TheVariants.{Or, Less, Greater, LessEqual, GreaterEqual, ShiftLeft, ShiftRight, Add, Subtract, Multiply, Divide, Remainder}
+use Rattle.syntax.specs.declared.tree.BinaryOp.TheVariants.{Equal}
 use Rattle.syntax.specs.Tree.{Expr, Constant}
 use Rattle.syntax.specs.Numbers.{operand_type, result_type}
 use Rattle.syntax.specs.Names.{GlobalCells, cells}
@@ -17,25 +17,10 @@ use Rattle.bytecode.specs.Views.{instr_of}
 use Rattle.lower_spec.specs.Expressions as Lowered
 use Rattle.lower_spec.specs.Expressions.{Coded, Due, Layout, MayTake, constant_in, GivenBy, Converts, ConvertedCode, DueCode, TypedCode, LocalIs, WordCode, OperandCode, VariableCode, ElementCode, CastCode, ValueTransactionCode, UnaryCode, NotCode, BinaryCode, MovedCode, BranchCode, HandedCode}
 use Rattle.selection.specs.Lists.{Lists, with_register}
-use Rattle.selection.specs.Expressions.{computing, negating, complementing, Emitted, above, one, then_one, constant, preloaded_from, preloaded, preloaded_constant, preloaded_or, in_local, converting, converted_by, in_type, in_first_type, in_own_transaction, negation, complement, logical_negation, both, value_into}
+use Rattle.selection.specs.Expressions.{negating, complementing, Emitted, above, one, then_one, constant, preloaded_from, preloaded, preloaded_constant, preloaded_or, in_local, converting, converted_by, in_type, in_first_type, in_own_transaction, negation, complement, logical_negation, both, value_into}
 use Rattle.selection.proofs.stands.Standing.{Stand, front, behind, Grows, grows_same, grows_further, grows_used, max_left, max_right, Fits, fits_before, is_register, given}
 
--- operators have the instructions of the relation
-pub computing_is : (arguments : List ℕ) (op : BinaryOp) (t : Scalar) (d a b : ℕ) → instr_of arguments (computing op t d a b) ≡ Lowered.computing op t d a b
-computing_is arguments Or t d a b = refl
-computing_is arguments Less Int d a b = refl
-computing_is arguments Greater Int d a b = refl
-computing_is arguments LessEqual Int d a b = refl
-computing_is arguments GreaterEqual Int d a b = refl
-computing_is arguments ShiftLeft Int d a b = refl
-computing_is arguments ShiftRight Int d a b = refl
-computing_is arguments Add Int d a b = refl
-computing_is arguments Subtract Int d a b = refl
-computing_is arguments Multiply Int d a b = refl
-computing_is arguments Divide Int d a b = refl
-computing_is arguments Remainder Int d a b = refl
-computing_is arguments op t d a b = refl
-
+-- operators of one operand have the instructions of the relation
 pub negating_is : (arguments : List ℕ) (t : Scalar) (d a : ℕ) → instr_of arguments (negating t d a) ≡ Plain.Negate t d a
 negating_is arguments Int d a = refl
 negating_is arguments Unsigned d a = refl
@@ -208,7 +193,7 @@ module _ (code : Code) (arguments : List ℕ) (layout : Layout) where
   compared_emits home A from free into l e h m =
       let rz : ℕ = above free e.location.register in
       let zero : Instr = own.Constant rz 0 in
-      let equal : Instr = own.Equal into e.location.register rz in
+      let equal : Instr = own.Compute Equal Unsigned into e.location.register rz in
       let lists : Lists = with_register rz e.lists in
       record {
         to_is = let a = h.to_is in let b : length (e.code ++ zero ∷ equal ∷ []) ≡ length e.code + 2 = length-append e.code (zero ∷ equal ∷ []) in omega (arith, a, b);
@@ -264,7 +249,7 @@ module _ (code : Code) (arguments : List ℕ) (layout : Layout) where
       Emits (BinaryCode code layout home op A B) from free l (both op (operand_type op ta tb) a b into)
   both_emits home op A B ta tb from free into l a b h g m =
       let t : Scalar = operand_type op ta tb in
-      let i : Instr = computing op t into a.location.register b.location.register in
+      let i : Instr = own.Compute op t into a.location.register b.location.register in
       let two : length (a.code ++ b.code) ≡ length a.code + length b.code = length-append a.code b.code in
       let last_is : b.location.to ≡ from + length (a.code ++ b.code) = (let x = h.to_is in let y = g.to_is in omega (arith, x, y, two)) in
       record {
@@ -286,8 +271,7 @@ module _ (code : Code) (arguments : List ℕ) (layout : Layout) where
               is_above = above_free free a.location.register;
               apart = inl (above_it free a.location.register);
               right = g.stands inner (behind code arguments from a.location.to a.code b.code h.to_is first);
-              operates = subst (λ j. GivenBy code layout home j (result_type op t) b.location.to (b.location.to + 1) free into (result_type op t)) (computing_is arguments op t into a.location.register b.location.register)
-                  (given code arguments layout home i (result_type op t) b.location.to (b.location.to + 1) free into (omega arith) m (is_register code arguments layout b.lists into f) last.0);
+              operates = given code arguments layout home i (result_type op t) b.location.to (b.location.to + 1) free into (omega arith) m (is_register code arguments layout b.lists into f) last.0;
             };
       }
 

@@ -28,7 +28,9 @@ use Rattle.lower_spec.specs.Statements.{StmtsCode}
 use Rattle.lower_spec.specs.Programs as Lowered
 use Rattle.lower_spec.specs.Programs.{parameter_locals, FunctionIsLowered, IsLowered}
 use Rattle.selection.specs.Lists.{Lists}
-use Rattle.selection.specs.Names.{Callee, callee_at, callee_first, callee_from}
+use Rattle.program_tables.specs.Functions.{NumberedFunction, function_first, function_from}
+use Rattle.program_tables.proofs.Defined.{defined_by, definition_from}
+use Rattle.selection.specs.Names.{Callee, callee_at, callee_by}
 use Rattle.selection.specs.Simples.{Written}
 use Rattle.selection.specs.Statements.{stmts_code}
 use Rattle.selection.specs.Loops.{in_loops}
@@ -41,20 +43,11 @@ use Rattle.selection.proofs.stands.Statements.{stmts_write}
 use Rattle.selection.proofs.stands.Cancelling.{CancelsAreFit}
 
 -- a function that is defined is a callee
-defined_is_callee : (n : ℕ) (items : Program) (x : List ℕ) (f : Function) (body : Stmts) → definition_of items x ≡ Some (f, body) → (m : ℕ) × (callee_from n items x ≡ Some (callee_at m f))
-defined_is_callee n [] x f body e = absurd (cc)
-defined_is_callee n (Shares gs ∷ items) x f body e = defined_is_callee n items x f body e
-defined_is_callee n (Defines g ∷ items) x f body e = by g.body (λ h. defined_is_callee n items x f body h) (λ h. defined_is_callee (suc n) items x f body h) e
-  where
-    by_name : (b : Stmts) (same : Bool) → (definition_of items x ≡ Some (f, body) → (m : ℕ) × (callee_from (suc n) items x ≡ Some (callee_at m f))) → (if same then Some (g, b) else definition_of items x) ≡ Some (f, body) →
-        (m : ℕ) × ((if same then Some (callee_at n g) else callee_from (suc n) items x) ≡ Some (callee_at m f))
-    by_name b true others h = let same : (g, b) ≡ (f, body) = ap (λ o. unwrap_or o (g, b)) h in (n, ap (λ (d : Function × Stmts). Some (callee_at n d.0)) same)
-    by_name b false others h = others h
-
-    by : (o : Option Stmts) → (definition_of items x ≡ Some (f, body) → (m : ℕ) × (callee_from n items x ≡ Some (callee_at m f))) → (definition_of items x ≡ Some (f, body) → (m : ℕ) × (callee_from (suc n) items x ≡ Some (callee_at m f))) →
-        definition_or g x o (definition_of items x) ≡ Some (f, body) → (m : ℕ) × (callee_first n g o (λ m. callee_from m items x) x ≡ Some (callee_at m f))
-    by None here others h = here h
-    by (Some b) here others h = by_name b (bytes_eq g.name.text x) others h
+found_by : (f : Function) (body : Stmts) (o : Option NumberedFunction) (s : Option (Function × Stmts)) → option_map defined_by o ≡ s → s ≡ Some (f, body) → (m : ℕ) × (option_map callee_by o ≡ Some (callee_at m f))
+found_by f body None s same e = let none : None ≡ Some (f, body) = same ∙ e in absurd cc
+found_by f body (Some d) s same e =
+    let is : d.definition ≡ (f, body) = ap (λ o. unwrap_or o d.definition) (same ∙ e) in
+    (d.number, ap (λ (q : Function × Stmts). Some (callee_at d.number q.0)) is)
 
 -- a callee's number, counted from the first one, is that of a function of its name and with its parameters
 pub record IsThere (functions : List FunctionCode) (n : ℕ) (x : List ℕ) (c : Callee) : Type 0 where
@@ -65,12 +58,12 @@ pub record IsThere (functions : List FunctionCode) (n : ℕ) (x : List ℕ) (c :
   pub named : function.name ≡ x
   pub takes : length c.parameters ≡ function.parameters
 
-pub callee_is_there : (p : Program) (n : ℕ) (items : Program) (from : ℕ) (l : Lists) (x : List ℕ) (c : Callee) → callee_from n items x ≡ Some c → IsThere (all_made p items from l).functions n x c
+pub callee_is_there : (p : Program) (n : ℕ) (items : Program) (from : ℕ) (l : Lists) (x : List ℕ) (c : Callee) → option_map callee_by (function_from n items x) ≡ Some c → IsThere (all_made p items from l).functions n x c
 callee_is_there p n [] from l x c e = absurd (cc)
 callee_is_there p n (Shares gs ∷ items) from l x c e = callee_is_there p n items from l x c e
 callee_is_there p n (Defines f ∷ items) from l x c e = by f.body (λ h. callee_is_there p n items from l x c h) (λ to m h. callee_is_there p (suc n) items to m x c h) e
   where
-    by_name : (b : Stmts) → ((to : ℕ) (m : Lists) → callee_from (suc n) items x ≡ Some c → IsThere (all_made p items to m).functions (suc n) x c) → (same : Bool) → bytes_eq f.name.text x ≡ same → (if same then Some (callee_at n f) else callee_from (suc n) items x) ≡ Some c → IsThere (made_first p f (Some b) (all_made p items) from l).functions n x c
+    by_name : (b : Stmts) → ((to : ℕ) (m : Lists) → option_map callee_by (function_from (suc n) items x) ≡ Some c → IsThere (all_made p items to m).functions (suc n) x c) → (same : Bool) → bytes_eq f.name.text x ≡ same → option_map callee_by (if same then Some (record { number = n; definition = (f, b) }) else function_from (suc n) items x) ≡ Some c → IsThere (made_first p f (Some b) (all_made p items) from l).functions n x c
     by_name b others true s h =
         let w = body_written p f b from l in
         record {
@@ -86,7 +79,7 @@ callee_is_there p n (Defines f ∷ items) from l x c e = by f.body (λ h. callee
         let r = others w.to w.lists h in
         record { number = suc r.number; function = r.function; is = let k = r.is in omega (arith, k); there = r.there; named = r.named; takes = r.takes }
 
-    by : (o : Option Stmts) → (callee_from n items x ≡ Some c → IsThere (all_made p items from l).functions n x c) → ((to : ℕ) (m : Lists) → callee_from (suc n) items x ≡ Some c → IsThere (all_made p items to m).functions (suc n) x c) → callee_first n f o (λ m. callee_from m items x) x ≡ Some c → IsThere (made_first p f o (all_made p items) from l).functions n x c
+    by : (o : Option Stmts) → (option_map callee_by (function_from n items x) ≡ Some c → IsThere (all_made p items from l).functions n x c) → ((to : ℕ) (m : Lists) → option_map callee_by (function_from (suc n) items x) ≡ Some c → IsThere (all_made p items to m).functions (suc n) x c) → option_map callee_by (function_first n f o (λ m. function_from m items x) x) ≡ Some c → IsThere (made_first p f o (all_made p items) from l).functions n x c
     by None here others h = here h
     by (Some b) here others h = by_name b others (bytes_eq f.name.text x) refl h
 
@@ -97,7 +90,7 @@ callees_stand p x c e =
     (r.function, subst (λ n. slice_get (made_of p).functions n ≡ Some r.function) same r.there, r.named)
 
 pub defined_are_callees : (p : Program) → DefinedAreCallees p
-defined_are_callees p x f body e = defined_is_callee 0 p x f body e
+defined_are_callees p x f body e = found_by f body (function_from 0 p x) (definition_of p x) (definition_from 0 p x) e
 
 -- the parameters that have names are a function's first locals
 pub parameters_are : (qs : List Parameter) → map shape (parameter_locals qs) ≡ shapes_of qs

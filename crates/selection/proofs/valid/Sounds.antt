@@ -7,7 +7,7 @@ use Rattle.std.proofs.lemmas.List.{length-append, length-map, map-append}
 use Rattle.lex.specs.declared.token.Scalar.{Scalar}
 use Rattle.lex.specs.declared.token.Scalar.TheVariants.{Int, Unsigned, LongLong}
 use Rattle.syntax.specs.declared.tree.BinaryOp.{BinaryOp}
-use Rattle.syntax.specs.declared.tree.BinaryOp.TheVariants.{Greater, GreaterEqual}
+use Rattle.syntax.specs.declared.tree.BinaryOp.TheVariants.{Equal, Greater, GreaterEqual}
 use Rattle.syntax.specs.declared.tree.LogicalOp.{LogicalOp}
 use Rattle.syntax.specs.declared.tree.LogicalOp.TheVariants.{AndThen, OrElse}
 use Rattle.syntax.specs.Tree.{Parameter, Expr, Constant}
@@ -15,7 +15,7 @@ use Rattle.syntax.specs.Numbers.{number, word_of}
 use Rattle.syntax.proofs.words.Words.{word_below}
 use Rattle.bytecode.specs.declared.instr.Instr.{Instr}
 use Rattle.bytecode.specs.declared.instr.Instr.TheVariants as own
-use Rattle.bytecode.specs.Code.{Code, FunctionCode, Instr as Plain}
+use Rattle.bytecode.specs.Code.{Code, FunctionCode, Instr as Plain, computing}
 use Rattle.bytecode.specs.Valid.{IsWritten, Takes}
 use Rattle.bytecode.specs.Views.{instr_of}
 use Rattle.lower_spec.specs.Expressions as Lowered
@@ -25,10 +25,9 @@ use Rattle.selection.specs.Names.{Callee}
 use Rattle.selection.specs.declared.draft.Draft.TheVariants as draft
 use Rattle.selection.specs.Conditions.{Condition, test_in, jump_if, jump_if_not, instruction_of_draft, opposite_draft, going_on, going_back, by_value, opposite, first_of, logical_condition, zero_tested}
 use Rattle.selection.specs.Simples.{widening}
-use Rattle.selection.specs.Expressions.{computing, negating, complementing, Emitted, AllEmitted, above, one, then_one, preloaded_from, preloaded, preloaded_constant, preloaded_or, in_local, converting, converted_by, in_type, in_first_type, constant, in_own_transaction, negation, complement, logical_negation, both, condition_value, condition_of, value_into, conditional_value, with_argument, call_code}
+use Rattle.selection.specs.Expressions.{negating, complementing, Emitted, AllEmitted, above, one, then_one, preloaded_from, preloaded, preloaded_constant, preloaded_or, in_local, converting, converted_by, in_type, in_first_type, constant, in_own_transaction, negation, complement, logical_negation, both, condition_value, condition_of, value_into, conditional_value, with_argument, call_code}
 use Rattle.selection.proofs.Drafted.{whole_are, turned_are, first_and, first_or, completed_length, on_length, back_length, first_length}
 use Rattle.selection.proofs.stands.Standing.{front_same, front_more, Grows, grows_same, grows_further, grows_used, max_left, max_right}
-use Rattle.selection.proofs.stands.Emitting.{computing_is}
 use Rattle.selection.proofs.stands.Exprs.{handed_over}
 use Rattle.selection.proofs.valid.Fitting.{Fits, fits_before, is_register}
 use Rattle.selection.proofs.valid.Begins.{IsBalanced, left_append, balanced_append, opens_split}
@@ -94,21 +93,15 @@ into_into r e = by (e.location.register == r) refl
     by false n = refl
 
 module _ (code : Code) (arguments : List ℕ) (f : FunctionCode) (end : ℕ) where
-  lowered_goes : (op : BinaryOp) (t : Scalar) (d a b : ℕ) → GoesOn code arguments f end (Lowered.computing op t d a b)
-  lowered_goes Greater t d a b = λ q bs. (refl, tt)
-  lowered_goes GreaterEqual t d a b = λ q bs. (refl, tt)
-  lowered_goes op t d a b = λ q bs. (refl, tt)
+  computing_goes : (op : BinaryOp) (t : Scalar) (d a b : ℕ) → GoesOn code arguments f end (computing op t d a b)
+  computing_goes Greater t d a b = λ q bs. (refl, tt)
+  computing_goes GreaterEqual t d a b = λ q bs. (refl, tt)
+  computing_goes op t d a b = λ q bs. (refl, tt)
 
-  lowered_written : (op : BinaryOp) (t : Scalar) (d a b : ℕ) → d < f.registers → a < f.registers → b < f.registers → IsWritten code f end (Lowered.computing op t d a b)
-  lowered_written Greater t d a b x y z = (x, z, y)
-  lowered_written GreaterEqual t d a b x y z = (x, z, y)
-  lowered_written op t d a b x y z = (x, y, z)
-
-  computing_goes : (op : BinaryOp) (t : Scalar) (d a b : ℕ) → GoesOn code arguments f end (instr_of arguments (computing op t d a b))
-  computing_goes op t d a b = subst (GoesOn code arguments f end) (sym (computing_is arguments op t d a b)) (lowered_goes op t d a b)
-
-  computing_written : (op : BinaryOp) (t : Scalar) (d a b : ℕ) → d < f.registers → a < f.registers → b < f.registers → IsWritten code f end (instr_of arguments (computing op t d a b))
-  computing_written op t d a b x y z = subst (IsWritten code f end) (sym (computing_is arguments op t d a b)) (lowered_written op t d a b x y z)
+  computing_written : (op : BinaryOp) (t : Scalar) (d a b : ℕ) → d < f.registers → a < f.registers → b < f.registers → IsWritten code f end (computing op t d a b)
+  computing_written Greater t d a b x y z = (x, z, y)
+  computing_written GreaterEqual t d a b x y z = (x, z, y)
+  computing_written op t d a b x y z = (x, y, z)
 
   pub size_of : (l : Lists) → Fits code arguments f.registers l → l.registers ≤ f.registers
   size_of l k = k.registers
@@ -233,7 +226,7 @@ module _ (code : Code) (arguments : List ℕ) (f : FunctionCode) (end : ℕ) whe
   compared_sound into free from l e h =
       let rz : ℕ = above free e.location.register in
       let zero : Instr = own.Constant rz 0 in
-      let equal : Instr = own.Equal into e.location.register rz in
+      let equal : Instr = own.Compute Equal Unsigned into e.location.register rz in
       let lists : Lists = with_register rz e.lists in
       let to_is = h.to_is in
       record {
@@ -281,7 +274,7 @@ module _ (code : Code) (arguments : List ℕ) (f : FunctionCode) (end : ℕ) whe
 
   pub both_sound : (op : BinaryOp) (t : Scalar) (into from : ℕ) (l : Lists) (a b : Emitted) → Sound from l a → OperandSound a.location.to a.lists b → Sound from l (both op t a b into)
   both_sound op t into from l a b h g =
-      let i : Instr = computing op t into a.location.register b.location.register in
+      let i : Instr = own.Compute op t into a.location.register b.location.register in
       let two : length (a.code ++ b.code) ≡ length a.code + length b.code = length-append a.code b.code in
       let x = h.to_is in
       let y = g.to_is in
@@ -300,7 +293,7 @@ module _ (code : Code) (arguments : List ℕ) (f : FunctionCode) (end : ℕ) whe
             (λ r. (good_on code arguments f end o b.location.to bs i [] way there r, tt));
       }
     where
-      way : GoesOn code arguments f end (instr_of arguments (computing op t into a.location.register b.location.register))
+      way : GoesOn code arguments f end (instr_of arguments (own.Compute op t into a.location.register b.location.register))
       way = computing_goes op t into a.location.register b.location.register
 
   -- a condition, up to its jump

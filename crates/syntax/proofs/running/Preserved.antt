@@ -21,6 +21,8 @@ use Rattle.syntax.specs.Formats.{Piece, Literal, Specifier, pieces, formats_in, 
 use Rattle.syntax.specs.Laws.{IsPieceOf}
 use Rattle.syntax.specs.Meaning.{Lvalue, InLocal, InCell, fetch, assign, print_pieces, Completion, Next, Breaks, Continues, Returns, Cancels, CancelsOuter, on_next, in_scope, loop, after_body, transaction, begin_value, value_at, op_of, int_one, Caller, lvalue_from, lvalue_of_name, element, expr, exprs, lvalue, assign_by_operator, assign_by, simple, first_value, declare, start_with, for_condition, optional_step, return_value, stmt, stmts, call_locals, result_of, invoke, calls}
 use Rattle.syntax.proofs.words.Words.{word_below}
+use Rattle.syntax.proofs.running.InExpressions as InExpressions
+use Rattle.syntax.proofs.running.InExpressions.{IsKeptInExpressions}
 use Rattle.syntax.specs.Threads.{worker_run}
 
 -- a property that each word of runs keeps, where only such pieces are printed, and only words of a cell's type are stored
@@ -71,24 +73,31 @@ pub record AreCells (p : Program) (IsCell : ℕ → Scalar → Type 0) : Type 0 
 module _ (p : Program) (IsPiece : List ℕ → Type 0) (IsCell : ℕ → Scalar → Type 0) (cells_are : AreCells p IsCell) (number_piece : (z : ℤ) → IsPiece (signed_decimal z)) (literal_piece : (format : List ℕ) → IsFormatOf p format → (text : List ℕ) → Contains (pieces format) (Literal text) → IsPiece text) (Q : (A : Type 0) → Action A → Type 0) (preserved : IsPreserved IsPiece IsCell Q) where
   open preserved use {pure_holds, on_holds, astray_holds, trap_holds, tick_holds, locals_holds, put_locals_holds, load_holds, store_holds, may_print_holds, print_piece_holds, loop_holds, transaction_holds, begin_value_holds}
 
+  value_at_holds : (end : Completion) → Q _ (value_at end)
+  value_at_holds (Returns v) = pure_holds v
+  value_at_holds Next = astray_holds
+  value_at_holds Breaks = astray_holds
+  value_at_holds Continues = astray_holds
+  value_at_holds Cancels = astray_holds
+  value_at_holds CancelsOuter = astray_holds
+
+  kept : IsKeptInExpressions Q
+  kept = record { pure_holds = pure_holds; on_holds = on_holds; astray_holds = astray_holds; trap_holds = trap_holds; tick_holds = tick_holds; locals_holds = locals_holds; load_holds = load_holds; in_transaction_holds = λ mode h. on_holds begin_value_holds (λ _. on_holds (transaction_holds (Plain mode) (on_holds h (λ v. pure_holds (Returns v)))) value_at_holds) }
+
   then_holds : {A B : Type 0} {run : Action A} {rest : Action B} → Q A run → Q B rest → Q B (run >> rest)
-  then_holds g h = on_holds g (λ _. h)
+  then_holds g h = InExpressions.then_holds Q kept g h
 
   if_holds : {A : Type 0} (b : Bool) {x y : Action A} → Q A x → Q A y → Q A (if b then x else y)
-  if_holds true g h = g
-  if_holds false g h = h
+  if_holds b g h = InExpressions.if_holds Q kept b g h
 
   or_trap_holds : {A : Type 0} (r : Result A Trap) → Q A (or_trap r)
-  or_trap_holds (Ok a) = pure_holds a
-  or_trap_holds (Err t) = trap_holds t
+  or_trap_holds r = InExpressions.or_trap_holds Q kept r
 
   or_astray_holds : {A : Type 0} (o : Option A) → Q A (or_astray o)
-  or_astray_holds (Some a) = pure_holds a
-  or_astray_holds None = astray_holds
+  or_astray_holds o = InExpressions.or_astray_holds Q kept o
 
   fetch_holds : (at : Lvalue) → Q _ (fetch at)
-  fetch_holds (InLocal i t) = on_holds locals_holds (λ mine. pure_holds _)
-  fetch_holds (InCell c t) = on_holds (load_holds c) (λ w. pure_holds _)
+  fetch_holds at = InExpressions.fetch_holds Q kept at
 
   -- a cell of the type that is written there
   abbrev IsLvalue : Lvalue → Type 0
@@ -128,14 +137,6 @@ module _ (p : Program) (IsPiece : List ℕ → Type 0) (IsCell : ℕ → Scalar 
   on_next_holds h Cancels = pure_holds Cancels
   on_next_holds h CancelsOuter = pure_holds CancelsOuter
 
-  value_at_holds : (end : Completion) → Q _ (value_at end)
-  value_at_holds (Returns v) = pure_holds v
-  value_at_holds Next = astray_holds
-  value_at_holds Breaks = astray_holds
-  value_at_holds Continues = astray_holds
-  value_at_holds Cancels = astray_holds
-  value_at_holds CancelsOuter = astray_holds
-
   pub scoped_holds : {run : Action Completion} → Q _ run → Q _ (in_scope run)
   scoped_holds h = on_holds locals_holds (λ outer. on_holds h (λ end. on_holds locals_holds (λ all. then_holds (put_locals_holds _) (pure_holds end))))
 
@@ -149,34 +150,11 @@ module _ (p : Program) (IsPiece : List ℕ → Type 0) (IsCell : ℕ → Scalar 
 
   -- every expression and every statement, where each call is steady
   module _ (call : Caller) (h : (x : List ℕ) (vs : List Value) → Q Value (call x vs)) where
-    lvalue_from_holds : (x : List ℕ) (o : Option (ℕ × Scalar)) → Q _ (lvalue_from p call x o)
-    lvalue_from_holds x (Some l) = pure_holds _
-    lvalue_from_holds x None = on_holds (or_astray_holds (global_of p x)) (λ g. pure_holds _)
+    pub expr_holds : (e : Expr) → Q _ (expr p call e)
+    expr_holds e = InExpressions.expr_holds Q kept p call h e
 
-    named_holds : (x : List ℕ) → Q _ (lvalue_of_name p call x)
-    named_holds x = on_holds locals_holds (λ mine. lvalue_from_holds x (newest mine x))
-
-    element_holds : (x : List ℕ) (k : Value) → Q _ (element p call x k)
-    element_holds x k = on_holds (or_astray_holds (global_of p x)) (λ g. if_holds _ (pure_holds _) (trap_holds Index))
-
-    mutual
-      pub expr_holds : (e : Expr) → Q _ (expr p call e)
-      expr_holds (Variable x) = on_holds (named_holds x.text) fetch_holds
-      expr_holds (Constant n t at) = pure_holds _
-      expr_holds (Element x i at) = on_holds (expr_holds i) (λ k. on_holds (element_holds x.text k) fetch_holds)
-      expr_holds (Call f es at) = on_holds (exprs_holds es) (λ vs. then_holds tick_holds (h f.text vs))
-      expr_holds (Parenthesized e at) = expr_holds e
-      expr_holds (Cast t e at) = on_holds (expr_holds e) (λ v. pure_holds _)
-      expr_holds (Unary op e at) = on_holds (expr_holds e) (λ v. or_trap_holds _)
-      expr_holds (Binary op a b at) = on_holds (expr_holds a) (λ v. on_holds (expr_holds b) (λ w. or_trap_holds _))
-      expr_holds (Logical AndThen a b at) = on_holds (expr_holds a) (λ v. on_holds (if_holds _ (pure_holds v) (expr_holds b)) (λ w. pure_holds _))
-      expr_holds (Logical OrElse a b at) = on_holds (expr_holds a) (λ v. on_holds (if_holds _ (expr_holds b) (pure_holds v)) (λ w. pure_holds _))
-      expr_holds (Conditional c a b at) = on_holds (expr_holds c) (λ v. on_holds (if_holds _ (expr_holds b) (expr_holds a)) (λ w. on_holds locals_holds (λ mine. on_holds (or_astray_holds _) (λ t. pure_holds _))))
-      expr_holds (InTransaction mode keyword e at) = then_holds begin_value_holds (on_holds (transaction_holds (Plain mode) (on_holds (expr_holds e) (λ v. pure_holds (Returns v)))) value_at_holds)
-
-      pub exprs_holds : (es : Exprs) → Q _ (exprs p call es)
-      exprs_holds Tree.[] = pure_holds []
-      exprs_holds (Tree.◌∷◌ e es) = on_holds (expr_holds e) (λ v. on_holds (exprs_holds es) (λ vs. pure_holds _))
+    exprs_holds : (es : Exprs) → Q _ (exprs p call es)
+    exprs_holds es = InExpressions.exprs_holds Q kept p call h es
 
     -- what follows where an lvalue is found
     abbrev Follows : {B : Type 0} → (Lvalue → Action B) → Type 0

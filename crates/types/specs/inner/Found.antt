@@ -1,5 +1,6 @@
 -- What is found out item by item.
 use Rattle.std.specs.Prelude.{◌≡◌, ◌≤◌, List}
+use Rattle.syntax.specs.declared.limits.TheConstants.{MOST_CELLS}
 use Rattle.syntax.specs.Tree.{Item}
 use Rattle.syntax.specs.Types.{file_scope}
 use Rattle.syntax.specs.Typing.{all_cells}
@@ -13,4 +14,4 @@ pub record IsFound {A : Type 0} (found : FoundItems A) (items : List Item) : Typ
   pub none : count_in found.names ≡ 0
   pub defined : AreBodies found.bodies items
   pub taken : found.taken ≡ all_cells items
-  pub few : found.taken ≤ 4096
+  pub few : found.taken ≤ MOST_CELLS

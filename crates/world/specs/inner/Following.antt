@@ -1,25 +1,14 @@
 -- What a world keeps, by the machine's world that its steps lead to.
-use Rattle.std.specs.Prelude.{◌≡◌, ◌<◌, ◌≤◌, ◌%◌, ℕ, suc, List, [], ◌∷◌, length}
+use Rattle.std.specs.Prelude.{◌≡◌, ◌≤◌, ℕ, suc, List, [], ◌∷◌, length}
 use Rattle.bytecode.specs.Beginning.{beginning}
 use Rattle.bytecode.specs.Code.{Code, Configuration, effect}
 use Rattle.bytecode.specs.Initial.{initial_of}
 use Rattle.bytecode.specs.Valid.{IsValid}
-use Rattle.norec_core.specs.declared.step.Access.{Access}
-use Rattle.norec_core.specs.declared.step.Access.TheVariants.{Local, LoadLock, LoadWord, Swap, StoreWord, StoreLock}
 use Rattle.machine.specs.Standing.{IsThreadOf}
 use Rattle.machine.specs.States.{ThreadState, first_thread}
 use Rattle.machine.specs.Traces.{RunsOn}
 use Rattle.machine.specs.Worlds.{Part, new_world}
 use Rattle.world.specs.Simulations.{Simulation, world_of, accesses_of}
-
--- the access names one of so many cells, or swaps from an even value, which can be followed
-abbrev pub IsMakeable : ℕ → Access → Type 0
-IsMakeable cells Local = Unit {0}
-IsMakeable cells LoadLock = Unit {0}
-IsMakeable cells (LoadWord a) = a < cells
-IsMakeable cells (Swap from) = from % 2 ≡ 0
-IsMakeable cells (StoreWord a v) = a < cells
-IsMakeable cells (StoreLock n) = Unit {0}
 
 -- a thread of the code, that of the machine's part, with no more accesses than so many
 pub record IsOfPart (code : Code) (most : ℕ) (x : ThreadState) (p : Part Configuration) : Type 0 where

@@ -1,7 +1,7 @@
 use Rattle.std.proofs.Common.{◌≡◌, ◌+◌, ◌≤◌, length, map, drop}
 use Rattle.syntax.specs.Names.{initial_from}
 use Rattle.syntax.specs.Views.{global_of}
-use Rattle.bytecode.specs.declared.limits.TheConstants.{MOST_CELLS}
+use Rattle.syntax.specs.declared.limits.TheConstants.{MOST_CELLS}
 use Rattle.bytecode.proofs.valid.count_cells.Given as goal
 
 abbrev pub invariant-each : goal.invariant-each

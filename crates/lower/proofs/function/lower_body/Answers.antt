@@ -5,7 +5,8 @@ use Rattle.bytecode.specs.declared.instr.Instr.TheVariants as instr
 use Rattle.lower_spec.specs.Programs.{parameter_locals}
 use Rattle.lower_exprs.specs.Lists.{lists_of}
 use Rattle.lower_exprs.specs.Fragments.{of_written}
-use Rattle.lower_exprs.specs.Views.{program_in, scope_in}
+use Rattle.lower_exprs.specs.Views.{scope_in}
+use Rattle.program_tables.specs.Views.{program_in}
 use Rattle.lower_exprs.proofs.Adding.{same, stops, no_less}
 use Rattle.lower.proofs.Bodies.{same_body}
 use Rattle.lower.proofs.function.lower_body.Goals as goal

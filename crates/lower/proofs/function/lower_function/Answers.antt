@@ -9,7 +9,7 @@ use Rattle.selection.specs.Programs.{body_with, nothing_preloaded}
 use Rattle.selection.proofs.Leaner.{body_leaner}
 use Rattle.lower_exprs.specs.Lists.{lists_of}
 use Rattle.lower_exprs.specs.Fragments.{of_written}
-use Rattle.lower_exprs.specs.Views.{program_in}
+use Rattle.program_tables.specs.Views.{program_in}
 use Rattle.lower_exprs.proofs.Adding.{same, stops}
 use Rattle.lower.proofs.Better.{made_once_more, arguments_fit, texts_fit, stays_plain, gets_better, body_more, has_room, behind_others, in_front}
 use Rattle.lower.proofs.function.lower_function.Goals as goal

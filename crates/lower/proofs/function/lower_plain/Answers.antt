@@ -3,7 +3,7 @@ use Rattle.syntax.specs.Views.{function_of, stmts_of}
 use Rattle.selection.specs.Programs.{body_with}
 use Rattle.lower_exprs.specs.Lists.{lists_of}
 use Rattle.lower_exprs.specs.Fragments.{of_written}
-use Rattle.lower_exprs.specs.Views.{program_in}
+use Rattle.program_tables.specs.Views.{program_in}
 use Rattle.lower_exprs.proofs.Adding.{same}
 use Rattle.lower.proofs.function.lower_plain.Goals as goal
 

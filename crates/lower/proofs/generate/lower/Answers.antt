@@ -6,7 +6,7 @@ use Rattle.selection.specs.Programs.{picked_code}
 use Rattle.lower.specs.Nested.{items_too_deep, nested_too_deep}
 use Rattle.lower.specs.Faults.{IsLowerFaultOf}
 use Rattle.lower.specs.inner.Parts.{IsOfCode}
-use Rattle.lower_exprs.specs.Views.{program_in}
+use Rattle.program_tables.specs.Views.{program_in}
 use Rattle.lower.proofs.Faulty.{handed_on, of_program}
 use Rattle.lower.proofs.Whole.{lent_program, parts_are_valid, code_means}
 use Rattle.lower.proofs.generate.lower.Goals as goal

@@ -3,7 +3,7 @@ use Rattle.std.proofs.lemmas.List.{length-map, map-append}
 use Rattle.syntax.specs.Views.{function_of, stmts_of, parameter_of}
 use Rattle.bytecode.specs.Views.{function_of as code_function}
 use Rattle.lower_exprs.specs.Lists.{lists_of}
-use Rattle.lower_exprs.specs.Views.{program_in}
+use Rattle.program_tables.specs.Views.{program_in}
 use Rattle.lower.proofs.Faulty.{parameters_fit}
 use Rattle.lower.proofs.generate.lower_definition.Goals as goal
 

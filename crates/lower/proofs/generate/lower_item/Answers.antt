@@ -7,7 +7,7 @@ use Rattle.bytecode.specs.Views.{function_of as code_function}
 use Rattle.selection.specs.Programs.{FunctionCodes, all_made, body_written, function_code}
 use Rattle.lower_exprs.specs.Lists.{lists_of}
 use Rattle.lower.specs.inner.Parts.{made_in, made_behind, made_once, IsOfDefinition, IsOfItem}
-use Rattle.lower_exprs.specs.Views.{program_in}
+use Rattle.program_tables.specs.Views.{program_in}
 use Rattle.lower.proofs.Bodies.{definition_made, prototype_made, nothing_behind, few_more}
 use Rattle.lower.proofs.Faulty.{definition_fault, handed_on}
 use Rattle.lower.proofs.generate.lower_item.Goals as goal

@@ -7,7 +7,7 @@ use Rattle.bytecode.specs.Code.{FunctionCode}
 use Rattle.bytecode.specs.Views.{instr_of, function_of as code_function}
 use Rattle.selection.specs.Programs.{FunctionCodes, all_made}
 use Rattle.lower.specs.inner.Parts.{made_in, IsOfItem, IsOfCode}
-use Rattle.lower_exprs.specs.Views.{program_in}
+use Rattle.program_tables.specs.Views.{program_in}
 use Rattle.lower.proofs.Bodies.{front_more, front_last}
 use Rattle.syntax.proofs.typing.Items.{items_more}
 use Rattle.lower.proofs.Faulty.{item_fault, handed_on}

@@ -4,7 +4,7 @@ use Rattle.syntax.specs.Names.{globals}
 use Rattle.syntax.specs.Views.{item_of, global_of}
 use Rattle.bytecode.specs.Views.{function_of}
 use Rattle.selection.specs.Programs.{made_for}
-use Rattle.lower_exprs.specs.Views.{program_in}
+use Rattle.program_tables.specs.Views.{program_in}
 use Rattle.lower.specs.inner.Parts.{made_in}
 use Rattle.lower.proofs.generate.lower_parts.Given as goal
 

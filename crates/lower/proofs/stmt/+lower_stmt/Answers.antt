@@ -14,7 +14,8 @@ use Rattle.selection.proofs.Growing.{condition_more}
 use Rattle.selection.proofs.GrowingStmts.{written_more}
 use Rattle.lower_exprs.specs.Lists.{lists_of}
 use Rattle.lower_exprs.specs.Fragments.{of_written}
-use Rattle.lower_exprs.specs.Views.{program_in, scope_in}
+use Rattle.lower_exprs.specs.Views.{scope_in}
+use Rattle.program_tables.specs.Views.{program_in}
 use Rattle.lower_exprs.proofs.Adding.{same, noted, in_turn, gathered, written_alone, stops, no_less}
 use Rattle.lower.proofs.Within.{test_within, step_within, body_within, start_within}
 use Rattle.lower.proofs.Written.{first_within, next_stmt, next_scope, last_scope, no_more_stmts}

@@ -3,7 +3,8 @@ use Rattle.syntax.specs.Views.{stmts_of}
 use Rattle.lower_spec.specs.inner.Locals.{locals_at_end}
 use Rattle.selection.specs.Statements.{stmts_code}
 use Rattle.lower_exprs.specs.Lists.{lists_of}
-use Rattle.lower_exprs.specs.Views.{program_in, scope_in}
+use Rattle.lower_exprs.specs.Views.{scope_in}
+use Rattle.program_tables.specs.Views.{program_in}
 use Rattle.lower_exprs.proofs.Adding.{written_behind}
 use Rattle.lower.proofs.stmt.+lower_stmt.Given as goal
 

@@ -3,7 +3,8 @@ use Rattle.syntax.specs.Views.{expr_of}
 use Rattle.selection.specs.Expressions.{condition}
 use Rattle.lower_exprs.specs.Lists.{lists_of}
 use Rattle.lower_exprs.specs.Fragments.{of_test}
-use Rattle.lower_exprs.specs.Views.{program_in, scope_in}
+use Rattle.lower_exprs.specs.Views.{scope_in}
+use Rattle.program_tables.specs.Views.{program_in}
 use Rattle.lower_exprs.proofs.Adding.{no_less, noted, same, stops}
 use Rattle.lower.proofs.stmt.lower_head.Goals as goal
 

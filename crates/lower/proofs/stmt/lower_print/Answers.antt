@@ -5,7 +5,8 @@ use Rattle.selection.specs.Expressions.{emit_all}
 use Rattle.selection.specs.Statements.{pieces_written}
 use Rattle.lower_exprs.specs.Lists.{lists_of}
 use Rattle.lower_exprs.specs.Fragments.{of_values, of_written}
-use Rattle.lower_exprs.specs.Views.{program_in, scope_in}
+use Rattle.lower_exprs.specs.Views.{scope_in}
+use Rattle.program_tables.specs.Views.{program_in}
 use Rattle.lower_exprs.proofs.Adding.{same, one_in_front, in_turn, stops}
 use Rattle.lower.proofs.Within.{arguments_within}
 use Rattle.lower.proofs.stmt.lower_print.Goals as goal

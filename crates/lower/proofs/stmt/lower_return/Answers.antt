@@ -5,7 +5,8 @@ use Rattle.selection.specs.Expressions.{as_type}
 use Rattle.selection.specs.Statements.{left_by, return_written}
 use Rattle.lower_exprs.specs.Lists.{lists_of}
 use Rattle.lower_exprs.specs.Fragments.{of_value, of_written}
-use Rattle.lower_exprs.specs.Views.{program_in, scope_in}
+use Rattle.lower_exprs.specs.Views.{scope_in}
+use Rattle.program_tables.specs.Views.{program_in}
 use Rattle.lower_exprs.proofs.Adding.{same, in_turn, stops, no_less}
 use Rattle.lower.proofs.stmt.lower_return.Goals as goal
 

@@ -3,7 +3,8 @@ use Rattle.syntax.specs.Views.{simple_of}
 use Rattle.selection.specs.Statements.{for_step}
 use Rattle.lower_exprs.specs.Lists.{lists_of}
 use Rattle.lower_exprs.specs.Fragments.{of_written}
-use Rattle.lower_exprs.specs.Views.{program_in, scope_in}
+use Rattle.lower_exprs.specs.Views.{scope_in}
+use Rattle.program_tables.specs.Views.{program_in}
 use Rattle.lower_exprs.proofs.Adding.{same}
 use Rattle.lower.proofs.stmt.lower_step.Goals as goal
 

@@ -12,11 +12,12 @@ use Rattle.selection.specs.Expressions.{AllEmitted, in_own_transaction, negation
 use Rattle.selection.specs.inner.Parts.{argument_value}
 use Rattle.selection.proofs.Growing.{used_more, compared_more, condition_more}
 use Rattle.lower_exprs.specs.Lists.{lists_of}
-use Rattle.lower_exprs.specs.Views.{program_in, scope_in}
+use Rattle.lower_exprs.specs.Views.{scope_in}
+use Rattle.program_tables.specs.Views.{program_in}
 use Rattle.lower_exprs.specs.Fragments.{of_value, of_test}
 use Rattle.lower_exprs.specs.inner.Stretches.{in_place, all_in_place}
-use Rattle.global_tables.specs.Tables.{shared_in}
-use Rattle.lower_exprs.specs.inner.Tables.{callee_in}
+use Rattle.program_tables.specs.Entries.{shared_in}
+use Rattle.lower_exprs.specs.inner.Callees.{callee_in}
 use Rattle.lower_exprs.proofs.Adding.{same, noted, in_turn, gathered, value_alone, stops, no_less}
 use Rattle.lower_exprs.proofs.Nodes.{variable_is, constant_is, call_is, element_is, parenthesized_is, cast_is, unary_is, binary_is, logical_is, conditional_is, in_transaction_is, value_there, test_there, value_test_there, due_constant, due_there, due_within, cast_test_there, cast_by_value}
 use Rattle.lower_exprs.proofs.Conditional.{into_behind, condition_within, second_within, one_is, two_is, chosen_there}

@@ -2,7 +2,8 @@ use Rattle.std.proofs.Common.{◌≡◌, drop, map}
 use Rattle.syntax.specs.Views.{exprs_of, parameter_of}
 use Rattle.selection.specs.Expressions.{types_of, emit_all}
 use Rattle.lower_exprs.specs.Lists.{lists_of}
-use Rattle.lower_exprs.specs.Views.{program_in, scope_in}
+use Rattle.lower_exprs.specs.Views.{scope_in}
+use Rattle.program_tables.specs.Views.{program_in}
 use Rattle.lower_exprs.proofs.Rows.{values_behind}
 use Rattle.lower_exprs.proofs.expr.+lower_expr.Given as goal
 

@@ -4,9 +4,10 @@ use Rattle.syntax.specs.Views.{expr_of}
 use Rattle.selection.specs.Expressions.{emit}
 use Rattle.selection.specs.Simples.{target_code, element_target, variable_target}
 use Rattle.lower_exprs.specs.Lists.{lists_of}
-use Rattle.lower_exprs.specs.Views.{program_in, scope_in}
+use Rattle.lower_exprs.specs.Views.{scope_in}
+use Rattle.program_tables.specs.Views.{program_in}
 use Rattle.lower_exprs.specs.inner.Stretches.{in_place, of_aim}
-use Rattle.global_tables.specs.Tables.{shared_in}
+use Rattle.program_tables.specs.Entries.{shared_in}
 use Rattle.lower_exprs.proofs.Adding.{same, in_turn, no_less, stops}
 use Rattle.lower_exprs.proofs.Nodes.{variable_is, element_is}
 use Rattle.lower_exprs.proofs.simple.find_aim.Goals as goal

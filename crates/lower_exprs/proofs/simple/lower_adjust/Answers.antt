@@ -2,7 +2,8 @@ use Rattle.std.proofs.Common.{option_map}
 use Rattle.std.specs.Option.{option_copied}
 use Rattle.syntax.specs.Views.{expr_of}
 use Rattle.lower_exprs.specs.Lists.{lists_of}
-use Rattle.lower_exprs.specs.Views.{program_in, scope_in}
+use Rattle.lower_exprs.specs.Views.{scope_in}
+use Rattle.program_tables.specs.Views.{program_in}
 use Rattle.lower_exprs.proofs.Adding.{stops}
 use Rattle.lower_exprs.proofs.Assigning.{target_within, result_within, result_there, adjusted_there}
 use Rattle.lower_exprs.proofs.simple.lower_adjust.Goals as goal

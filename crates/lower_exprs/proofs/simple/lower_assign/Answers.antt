@@ -1,6 +1,7 @@
 use Rattle.syntax.specs.Views.{expr_of}
 use Rattle.lower_exprs.specs.Lists.{lists_of}
-use Rattle.lower_exprs.specs.Views.{program_in, scope_in}
+use Rattle.lower_exprs.specs.Views.{scope_in}
+use Rattle.program_tables.specs.Views.{program_in}
 use Rattle.lower_exprs.proofs.Adding.{stops}
 use Rattle.lower_exprs.proofs.Assigning.{lvalue_within, value_within, value_behind, assigned_there}
 use Rattle.lower_exprs.proofs.simple.lower_assign.Goals as goal

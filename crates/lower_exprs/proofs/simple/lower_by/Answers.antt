@@ -3,7 +3,8 @@ use Rattle.std.specs.Option.{option_copied}
 use Rattle.syntax.specs.Views.{expr_of}
 use Rattle.selection.specs.Simples.{value_or_one}
 use Rattle.lower_exprs.specs.Lists.{lists_of}
-use Rattle.lower_exprs.specs.Views.{program_in, scope_in}
+use Rattle.lower_exprs.specs.Views.{scope_in}
+use Rattle.program_tables.specs.Views.{program_in}
 use Rattle.lower_exprs.specs.Fragments.{of_value}
 use Rattle.lower_exprs.proofs.Adding.{same}
 use Rattle.lower_exprs.proofs.simple.lower_by.Goals as goal

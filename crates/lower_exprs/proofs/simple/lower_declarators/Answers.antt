@@ -1,7 +1,8 @@
 use Rattle.std.proofs.Common.{ap}
 use Rattle.selection.specs.Simples.{Written}
 use Rattle.lower_exprs.specs.Lists.{lists_of}
-use Rattle.lower_exprs.specs.Views.{program_in, scope_in}
+use Rattle.lower_exprs.specs.Views.{scope_in}
+use Rattle.program_tables.specs.Views.{program_in}
 use Rattle.lower_exprs.proofs.Adding.{stops}
 use Rattle.lower_exprs.proofs.Declared.{next_scope, last_scope, next_declared, declared_first_within, no_more_declared}
 use Rattle.lower_exprs.proofs.simple.lower_declarators.Goals as goal

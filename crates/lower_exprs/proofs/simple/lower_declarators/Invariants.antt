@@ -3,7 +3,8 @@ use Rattle.syntax.specs.Views.{declarator_of}
 use Rattle.lower_spec.specs.Statements.{with_declared}
 use Rattle.selection.specs.Simples.{declared_written}
 use Rattle.lower_exprs.specs.Lists.{lists_of}
-use Rattle.lower_exprs.specs.Views.{program_in, scope_in}
+use Rattle.lower_exprs.specs.Views.{scope_in}
+use Rattle.program_tables.specs.Views.{program_in}
 use Rattle.lower_exprs.proofs.Adding.{written_behind}
 use Rattle.lower_exprs.proofs.simple.lower_declarators.Given as goal
 

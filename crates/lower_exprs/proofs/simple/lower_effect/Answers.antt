@@ -3,7 +3,8 @@ use Rattle.syntax.specs.declared.tree.Simple.TheVariants as simple
 use Rattle.syntax.specs.Views.{simple_of}
 use Rattle.selection.specs.Simples.{simple_written}
 use Rattle.lower_exprs.specs.Lists.{lists_of}
-use Rattle.lower_exprs.specs.Views.{program_in, scope_in}
+use Rattle.lower_exprs.specs.Views.{scope_in}
+use Rattle.program_tables.specs.Views.{program_in}
 use Rattle.lower_exprs.specs.Fragments.{of_written}
 use Rattle.lower_exprs.proofs.Adding.{same}
 use Rattle.lower_exprs.proofs.simple.lower_effect.Goals as goal

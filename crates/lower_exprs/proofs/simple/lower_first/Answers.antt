@@ -2,7 +2,8 @@ use Rattle.std.proofs.Common.{◌+◌, ap, sym, arith, option_map}
 use Rattle.syntax.specs.Views.{expr_of}
 use Rattle.selection.specs.Simples.{first_written}
 use Rattle.lower_exprs.specs.Lists.{lists_of}
-use Rattle.lower_exprs.specs.Views.{program_in, scope_in}
+use Rattle.lower_exprs.specs.Views.{scope_in}
+use Rattle.program_tables.specs.Views.{program_in}
 use Rattle.lower_exprs.specs.Fragments.{of_value, of_written}
 use Rattle.lower_exprs.proofs.Adding.{same, stops}
 use Rattle.lower_exprs.proofs.Assigning.{first_is, first_within, first_there}

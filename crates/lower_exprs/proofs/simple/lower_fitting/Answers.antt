@@ -1,7 +1,8 @@
 use Rattle.std.proofs.Common.{sym, ◌∙◌}
 use Rattle.syntax.specs.Views.{expr_of}
 use Rattle.lower_exprs.specs.Lists.{lists_of}
-use Rattle.lower_exprs.specs.Views.{program_in, scope_in}
+use Rattle.lower_exprs.specs.Views.{scope_in}
+use Rattle.program_tables.specs.Views.{program_in}
 use Rattle.lower_exprs.proofs.Adding.{stops}
 use Rattle.lower_exprs.proofs.Changing.{placed_there, placed_within}
 use Rattle.lower_exprs.proofs.simple.lower_fitting.Goals as goal

@@ -3,7 +3,8 @@ use Rattle.syntax.specs.Views.{declarator_of}
 use Rattle.lower_spec.specs.Statements.{with_local}
 use Rattle.selection.specs.Lists.{with_register}
 use Rattle.lower_exprs.specs.Lists.{lists_of}
-use Rattle.lower_exprs.specs.Views.{program_in, scope_in}
+use Rattle.lower_exprs.specs.Views.{scope_in}
+use Rattle.program_tables.specs.Views.{program_in}
 use Rattle.lower_exprs.proofs.Declared.{zero_within, declarator_there}
 use Rattle.lower_exprs.proofs.Adding.{needed_stops}
 use Rattle.lower_exprs.proofs.simple.lower_local.Goals as goal

@@ -1,5 +1,5 @@
 use Rattle.meaning.specs.inner.Does.{caller_in}
-use Rattle.meaning.specs.inner.SourceThread.{program_in}
+use Rattle.program_tables.specs.Views.{program_in}
 use Rattle.meaning.proofs.Pieces.{apart_first, apart_none}
 use Rattle.meaning.proofs.left.begin_apart.Goals as goal
 

@@ -1,7 +1,8 @@
 use Rattle.std.proofs.Common.{◌≡◌, ◌∙◌, ◌-◌, suc, ap, arith}
 use Rattle.meaning.specs.inner.Calls.{begun_in}
 use Rattle.meaning.specs.inner.Going.{frame_begun}
-use Rattle.meaning.specs.inner.SourceThread.{items_in, program_in, state_in}
+use Rattle.meaning.specs.inner.SourceThread.{items_in, state_in}
+use Rattle.program_tables.specs.Views.{program_in}
 use Rattle.meaning.proofs.Calling.{enters}
 use Rattle.meaning.proofs.left.begin_frame.Goals as goal
 

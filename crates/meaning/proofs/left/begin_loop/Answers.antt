@@ -3,7 +3,8 @@ use Rattle.syntax.specs.Views.{stmt_of}
 use Rattle.meaning.specs.inner.Does.{caller_in}
 use Rattle.meaning.specs.inner.Going.{turn_of}
 use Rattle.meaning.specs.inner.Left.{loop_opened}
-use Rattle.meaning.specs.inner.SourceThread.{program_in, state_in}
+use Rattle.meaning.specs.inner.SourceThread.{state_in}
+use Rattle.program_tables.specs.Views.{program_in}
 use Rattle.meaning.proofs.left.begin_loop.Goals as goal
 
 pub returns-in-For : goal.returns-in-For

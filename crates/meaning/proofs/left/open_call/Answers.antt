@@ -2,7 +2,8 @@ use Rattle.std.proofs.Common.{◌≡◌, ◌∙◌, Err, ap, sym}
 use Rattle.syntax.specs.Views.{exprs_of}
 use Rattle.meaning.specs.inner.Going.{frame_begun}
 use Rattle.meaning.specs.inner.Left.{follow_of}
-use Rattle.meaning.specs.inner.SourceThread.{program_in, state_in}
+use Rattle.meaning.specs.inner.SourceThread.{state_in}
+use Rattle.program_tables.specs.Views.{program_in}
 use Rattle.meaning.proofs.Calling.{call_enters, call_unentered, call_unticked, call_unvalued}
 use Rattle.meaning.proofs.Stops.{err_of, stops_as}
 use Rattle.meaning.proofs.left.open_call.Goals as goal

@@ -2,8 +2,9 @@ use Rattle.std.proofs.Common.{◌≡◌, ◌∙◌, sym, ap, false, arith}
 use Rattle.std.proofs.lemmas.Bool.{le-ltb}
 use Rattle.std.specs.Prelude.{nat_lt}
 use Rattle.syntax.specs.Names.{cells, global_of as global_of_program}
-use Rattle.meaning.specs.inner.SourceThread.{program_in, state_in}
-use Rattle.global_tables.specs.Tables.{shared_in}
+use Rattle.meaning.specs.inner.SourceThread.{state_in}
+use Rattle.program_tables.specs.Views.{program_in}
+use Rattle.program_tables.specs.Entries.{shared_in}
 use Rattle.meaning.specs.inner.Does.{caller_in}
 use Rattle.meaning.specs.inner.Word.{value_of}
 use Rattle.meaning.proofs.Elements.{element_traps}

@@ -4,7 +4,7 @@ use Rattle.syntax.specs.Views.{program_of}
 use Rattle.meaning.specs.InOrder.{IsInOrder, text_and_end}
 use Rattle.meaning.specs.declared.orders.Standing.{Standing}
 use Rattle.meaning.specs.declared.outcome.SourceOutcome.{SourceOutcome}
-use Rattle.meaning.specs.inner.SourceThread.{program_in}
+use Rattle.program_tables.specs.Views.{program_in}
 use Rattle.meaning.specs.inner.Turns.{does_in, seen_in}
 use Rattle.meaning.proofs.Turns.{in_this_order}
 use Rattle.meaning.proofs.orders.run_entries.Goals as goal

@@ -1,7 +1,7 @@
 use Rattle.std.proofs.Common.{◌∙◌, ◌+◌, ap, arith, drop, refl, sym}
 use Rattle.std.proofs.lemmas.List.{at_drop_more, drop_all}
 use Rattle.syntax.specs.Orders.{entries}
-use Rattle.meaning.specs.inner.SourceThread.{program_in}
+use Rattle.program_tables.specs.Views.{program_in}
 use Rattle.meaning.specs.inner.Turns.{does_in, progress}
 use Rattle.meaning.proofs.orders.take_turns.Goals as goal
 

@@ -1,6 +1,6 @@
 use Rattle.std.proofs.Common.{◌≡◌, ℕ, drop}
 use Rattle.syntax.specs.Orders.{entries}
-use Rattle.meaning.specs.inner.SourceThread.{program_in}
+use Rattle.program_tables.specs.Views.{program_in}
 use Rattle.meaning.specs.inner.Turns.{AreKnown, does_in, progress}
 use Rattle.meaning.proofs.orders.take_turns.Given as goal
 

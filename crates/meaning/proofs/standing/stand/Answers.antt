@@ -5,7 +5,8 @@ use Rattle.meaning.specs.Outcomes.{memories_in}
 use Rattle.meaning.specs.declared.left.Pending.TheVariants as task
 use Rattle.meaning.specs.declared.source_thread.StmtCompletion.TheVariants as end
 use Rattle.meaning.specs.inner.Calls.{begin_call, begun_in}
-use Rattle.meaning.specs.inner.SourceThread.{program_in, state_in}
+use Rattle.meaning.specs.inner.SourceThread.{state_in}
+use Rattle.program_tables.specs.Views.{program_in}
 use Rattle.meaning.proofs.Advancing.{begins_left, begins_so}
 use Rattle.meaning.proofs.standing.stand.Goals as goal
 

@@ -5,7 +5,8 @@ use Rattle.meaning.specs.declared.left.Direction.TheVariants as way
 use Rattle.meaning.specs.inner.Left.{first_step, step_of}
 use Rattle.meaning.specs.inner.Does.{caller_in}
 use Rattle.meaning.specs.inner.Going.{call_begun}
-use Rattle.meaning.specs.inner.SourceThread.{completion_of, program_in}
+use Rattle.meaning.specs.inner.SourceThread.{completion_of}
+use Rattle.program_tables.specs.Views.{program_in}
 use Rattle.meaning.proofs.Pieces.{call_step, open_step, own_step}
 use Rattle.meaning.proofs.standing.try_step.Goals as goal
 

@@ -1,2 +1,0 @@
--- globals by their names, and how many cells they have
-pub mod Tables

@@ -1,6 +1,0 @@
-use Rattle.name_tables.specs.Known.{entries_in}
-use Rattle.meaning.proofs.Symbols.{symbol_more}
-use Rattle.meaning.proofs.tables.add_symbol.Goals as goal
-
-pub returns : goal.returns
-returns g c = symbol_more (entries_in c.args.symbols.now) (entries_in c.declare.new.self) c.args.name.now c.args.symbol c.in_ok-declare.ensures.ok
