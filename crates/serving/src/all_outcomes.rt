@@ -16,7 +16,7 @@ use crate::listed_ends::tell_listed_ends;
 use crate::print::{ENDED, STOPPED, TRAPPED, has_trapped, print};
 use crate::program::compile;
 use crate::source::OrderFault;
-use crate::tell::{Detail, cannot_write, out_of_memory, refuse, refuse_order};
+use crate::tell::{Teller, cannot_write, out_of_memory};
 use crate::walked::{OutcomesFound, outcomes_in};
 use report::{ReportedOrder, WalkEnd, list_text};
 use std::alloc::Allocator;
@@ -30,30 +30,20 @@ pub(crate) fn all_outcomes<A: Allocator + Copy, W: Write, E: Write>(
     steps: u64,
     limit: u32,
     memory: u64,
-    detail: Detail<'_>,
     out: &mut W,
-    err: &mut E,
+    teller: &mut Teller<'_, E>,
 ) -> u8
     ensures { ServesText (PrintsOutcomes threads text.now) (HasNoCode text.now) (IsListOfOutcomes threads text.now)
         result (W.contents out.old) (W.contents out.new) }
 {
-    match list_outcomes(
-        alloc,
-        text,
-        threads,
-        steps,
-        limit,
-        memory,
-        detail.progress,
-        err,
-    ) {
+    match list_outcomes(alloc, text, threads, steps, limit, memory, teller) {
         Ok(found) => {
-            let status = print_outcomes(alloc, &found, out, err);
-            tell_listed_ends(alloc, text, threads, &found, detail, err);
+            let status = print_outcomes(alloc, &found, out, teller.err);
+            tell_listed_ends(alloc, text, threads, &found, teller);
             status
         }
-        Err(OrderFault::Source(fault)) => refuse(alloc, text, fault, detail, err),
-        Err(OrderFault::Order(fault)) => refuse_order(fault, detail, err),
+        Err(OrderFault::Source(fault)) => teller.refuse(alloc, text, fault),
+        Err(OrderFault::Order(fault)) => teller.refuse_order(fault),
     }
 }
 
@@ -94,8 +84,8 @@ fn print_outcomes<A: Allocator + Copy, W: Write, E: Write>(
 /// The outcomes of threads of a source's text, each with an order that leads to it and what the report of that order
 /// shows, and orders that are stuck, each with its report. At most `limit` states of threads are looked at, and in one
 /// turn a thread makes at most so many steps of its code, and states and list take about so many bytes of memory; `end`
-/// says whether more of one of these was wanted, and then these may not be all. Where that is asked, `err` is shown how many there are so far, in one line. The threads are looked at
-/// last.
+/// says whether more of one of these was wanted, and then these may not be all. The teller shows how many there are so
+/// far, in one line, where it is to show how far a walk is. The threads are looked at last.
 pub fn list_outcomes<A: Allocator + Copy, E: Write>(
     alloc: A,
     text: &str,
@@ -103,8 +93,7 @@ pub fn list_outcomes<A: Allocator + Copy, E: Write>(
     steps: u64,
     limit: u32,
     memory: u64,
-    is_shown: bool,
-    err: &mut E,
+    teller: &mut Teller<'_, E>,
 ) -> Result<OutcomesFound<A>, OrderFault>
     ensures are { IfOk result
         (λ o. AreOutcomesOfText threads text.now o.end (map reported_of o.outcomes.items)
@@ -112,9 +101,7 @@ pub fn list_outcomes<A: Allocator + Copy, E: Write>(
     ensures err { IfErr result (λ f. IsFaultInOrders text.now threads f) }
 {
     match compile(alloc, text) {
-        Ok(compiled) => match outcomes_in(
-            alloc, &compiled, threads, steps, limit, memory, is_shown, err,
-        ) {
+        Ok(compiled) => match outcomes_in(alloc, &compiled, threads, steps, limit, memory, teller) {
             Ok(found) => Ok(found),
             Err(fault) => Err(OrderFault::Order(fault)),
         },

@@ -23,7 +23,7 @@ use crate::print::{ENDED, STOPPED, UNUSABLE, print};
 use crate::program::{Compiled, compile, unit_of};
 use crate::properties::{PropertiesFound, properties_in};
 use crate::request::bytes_of_memory;
-use crate::tell::{Detail, cannot_write, not_read, out_of_memory, refuse, refuse_order};
+use crate::tell::{Teller, cannot_write, out_of_memory};
 use command::Questions;
 use messages::write_shown;
 use report::{Finding, Property, WalkEnd, properties_text};
@@ -39,16 +39,15 @@ pub(crate) fn open_asked<A: Allocator + Copy, F: Files, W: Write, E: Write>(
     file: &str,
     questions: &Questions,
     files: &F,
-    detail: Detail<'_>,
     out: &mut W,
-    err: &mut E,
+    teller: &mut Teller<'_, E>,
 ) -> u8
     ensures { ServesQuestions questions.now (F.contents files.now file.now) result (W.contents out.old)
         (W.contents out.new) }
 {
     match files.open(file) {
-        Ok(source) => ask(alloc, file, questions, source, detail, out, err),
-        Err(error) => not_read(file, &error, detail, err),
+        Ok(source) => ask(alloc, questions, source, out, teller),
+        Err(error) => teller.not_read(file, &error),
     }
 }
 
@@ -56,18 +55,16 @@ pub(crate) fn open_asked<A: Allocator + Copy, F: Files, W: Write, E: Write>(
 /// fails, and else as `serve` says.
 pub(crate) fn ask<A: Allocator + Copy, R: Read + Drop, W: Write, E: Write>(
     alloc: A,
-    file: &str,
     questions: &Questions,
     source: R,
-    detail: Detail<'_>,
     out: &mut W,
-    err: &mut E,
+    teller: &mut Teller<'_, E>,
 ) -> u8
     ensures { ServesQuestions questions.now (R.remaining source) result (W.contents out.old)
         (W.contents out.new) }
 {
-    match text_of(alloc, file, source, detail, err) {
-        Ok(text) => ask_text(alloc, questions, text.as_str(), detail, out, err),
+    match text_of(alloc, source, teller) {
+        Ok(text) => ask_text(alloc, questions, text.as_str(), out, teller),
         Err(status) => status,
     }
 }
@@ -77,17 +74,16 @@ fn ask_text<A: Allocator + Copy, W: Write, E: Write>(
     alloc: A,
     questions: &Questions,
     text: &str,
-    detail: Detail<'_>,
     out: &mut W,
-    err: &mut E,
+    teller: &mut Teller<'_, E>,
 ) -> u8
     ensures serves { ServesQuestions questions.now (Some text.now) result (W.contents out.old)
         (W.contents out.new) }
     ensures unaskable { result ≡ 2 → IsUnaskable questions.now text.now }
 {
     match compile(alloc, text) {
-        Ok(compiled) => ask_program(alloc, questions, &compiled, detail, out, err),
-        Err(fault) => refuse(alloc, text, fault, detail, err),
+        Ok(compiled) => ask_program(alloc, questions, &compiled, out, teller),
+        Err(fault) => teller.refuse(alloc, text, fault),
     }
 }
 
@@ -116,9 +112,8 @@ fn ask_program<A: Allocator + Copy, W: Write, E: Write>(
     alloc: A,
     questions: &Questions,
     compiled: &Compiled<A>,
-    detail: Detail<'_>,
     out: &mut W,
-    err: &mut E,
+    teller: &mut Teller<'_, E>,
 ) -> u8
     requires code { IsCodeOf (program_of compiled.now.accepted.safe.typed.unit) compiled.now.code }
     ensures status { result ≤ 5 }
@@ -139,13 +134,12 @@ fn ask_program<A: Allocator + Copy, W: Write, E: Write>(
                 compiled,
                 always.as_slice(),
                 last.as_slice(),
-                detail,
                 out,
-                err,
+                teller,
             ),
-            Err(_) => out_of_memory(err),
+            Err(_) => out_of_memory(teller.err),
         },
-        Err(_) => out_of_memory(err),
+        Err(_) => out_of_memory(teller.err),
     }
 }
 
@@ -156,9 +150,8 @@ fn ask_names<A: Allocator + Copy, W: Write, E: Write>(
     compiled: &Compiled<A>,
     always: &[&str],
     last: &[&str],
-    detail: Detail<'_>,
     out: &mut W,
-    err: &mut E,
+    teller: &mut Teller<'_, E>,
 ) -> u8
     requires code { IsCodeOf (program_of compiled.now.accepted.safe.typed.unit) compiled.now.code }
     ensures status { result ≤ 5 }
@@ -174,10 +167,10 @@ fn ask_names<A: Allocator + Copy, W: Write, E: Write>(
     ensures unaskable { result ≡ 2 → HasUnaskable (program_of compiled.now.accepted.safe.typed.unit)
         (asked_each false (map (λ n. n.now) always.now) ++ asked_each true (map (λ n. n.now) last.now)) }
 {
-    if let Some(status) = refuse_names(alloc, compiled, "always", always, err) {
+    if let Some(status) = refuse_names(alloc, compiled, "always", always, teller.err) {
         return status;
     }
-    if let Some(status) = refuse_names(alloc, compiled, "final", last, err) {
+    if let Some(status) = refuse_names(alloc, compiled, "final", last, teller.err) {
         return status;
     }
     match properties_in(
@@ -189,11 +182,10 @@ fn ask_names<A: Allocator + Copy, W: Write, E: Write>(
         bytes_of_memory(questions.memory),
         always,
         last,
-        detail.progress,
-        err,
+        teller,
     ) {
-        Ok(found) => print_found(alloc, &found, out, err),
-        Err(fault) => refuse_order(fault, detail, err),
+        Ok(found) => print_found(alloc, &found, out, teller.err),
+        Err(fault) => teller.refuse_order(fault),
     }
 }
 

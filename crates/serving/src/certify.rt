@@ -12,7 +12,7 @@ use crate::files::{Files, text_of};
 use crate::print::{REFUTED, print, print_text};
 use crate::program::read_accepted;
 use crate::source::order_accepted;
-use crate::tell::{Detail, cannot_write, not_read, out_of_memory, refuse, refuse_order, unusable};
+use crate::tell::{Teller, cannot_write, out_of_memory, unusable};
 use command::{Claim, listed_order};
 use differences::difference;
 use meaning::MeaningFault;
@@ -28,59 +28,54 @@ pub(crate) fn open_claim<A: Allocator + Copy, F: Files, W: Write, E: Write>(
     file: &str,
     claim: &Claim,
     files: &F,
-    detail: Detail<'_>,
     out: &mut W,
-    err: &mut E,
+    teller: &mut Teller<'_, E>,
 ) -> u8
     ensures { ServesClaim claim.now (F.contents files.now (string_bytes claim.now.order))
         (F.contents files.now (string_bytes claim.now.report)) (F.contents files.now file.now) result
         (W.contents out.old) (W.contents out.new) }
 {
     match files.open(file) {
-        Ok(source) => open_order(alloc, file, claim, source, files, detail, out, err),
-        Err(error) => not_read(file, &error, detail, err),
+        Ok(source) => open_order(alloc, claim, source, files, out, teller),
+        Err(error) => teller.not_read(file, &error),
     }
 }
 
 /// Opens the order, and then the report, and says whether a claim is so.
 fn open_order<A: Allocator + Copy, F: Files, R: Read + Drop, W: Write, E: Write>(
     alloc: A,
-    file: &str,
     claim: &Claim,
     source: R,
     files: &F,
-    detail: Detail<'_>,
     out: &mut W,
-    err: &mut E,
+    teller: &mut Teller<'_, E>,
 ) -> u8
     ensures { ServesClaim claim.now (F.contents files.now (string_bytes claim.now.order))
         (F.contents files.now (string_bytes claim.now.report)) (R.remaining source) result (W.contents out.old)
         (W.contents out.new) }
 {
     match files.open(claim.order.as_str()) {
-        Ok(order) => open_report(alloc, file, claim, source, order, files, detail, out, err),
-        Err(error) => not_read(claim.order.as_str(), &error, detail, err),
+        Ok(order) => open_report(alloc, claim, source, order, files, out, teller),
+        Err(error) => teller.not_read(claim.order.as_str(), &error),
     }
 }
 
 /// Opens the report, and says whether a claim is so.
 fn open_report<A: Allocator + Copy, F: Files, R: Read + Drop, S: Read + Drop, W: Write, E: Write>(
     alloc: A,
-    file: &str,
     claim: &Claim,
     source: R,
     order: S,
     files: &F,
-    detail: Detail<'_>,
     out: &mut W,
-    err: &mut E,
+    teller: &mut Teller<'_, E>,
 ) -> u8
     ensures { ServesClaim claim.now (S.remaining order) (F.contents files.now (string_bytes claim.now.report))
         (R.remaining source) result (W.contents out.old) (W.contents out.new) }
 {
     match files.open(claim.report.as_str()) {
-        Ok(report) => certify(alloc, file, claim, source, order, report, detail, out, err),
-        Err(error) => not_read(claim.report.as_str(), &error, detail, err),
+        Ok(report) => certify(alloc, claim, source, order, report, out, teller),
+        Err(error) => teller.not_read(claim.report.as_str(), &error),
     }
 }
 
@@ -96,20 +91,18 @@ pub(crate) fn certify<
     E: Write,
 >(
     alloc: A,
-    file: &str,
     claim: &Claim,
     source: R,
     order: S,
     report: Q,
-    detail: Detail<'_>,
     out: &mut W,
-    err: &mut E,
+    teller: &mut Teller<'_, E>,
 ) -> u8
     ensures { ServesClaim claim.now (S.remaining order) (Q.remaining report) (R.remaining source) result
         (W.contents out.old) (W.contents out.new) }
 {
-    match text_of(alloc, file, source, detail, err) {
-        Ok(text) => certify_text(alloc, claim, text.as_str(), order, report, detail, out, err),
+    match text_of(alloc, source, teller) {
+        Ok(text) => certify_text(alloc, claim, text.as_str(), order, report, out, teller),
         Err(status) => status,
     }
 }
@@ -121,28 +114,26 @@ fn certify_text<A: Allocator + Copy, S: Read + Drop, Q: Read + Drop, W: Write, E
     text: &str,
     order: S,
     report: Q,
-    detail: Detail<'_>,
     out: &mut W,
-    err: &mut E,
+    teller: &mut Teller<'_, E>,
 ) -> u8
     ensures { ServesClaim claim.now (S.remaining order) (Q.remaining report) (Some text.now) result
         (W.contents out.old) (W.contents out.new) }
 {
     match read_accepted(alloc, text) {
-        Ok(accepted) => match order_of(alloc, claim.order.as_str(), order, detail, err) {
+        Ok(accepted) => match order_of(alloc, claim.order.as_str(), order, teller) {
             Ok(order) => certify_order(
                 alloc,
                 claim,
                 &accepted,
                 order.as_slice(),
                 report,
-                detail,
                 out,
-                err,
+                teller,
             ),
             Err(status) => status,
         },
-        Err(fault) => refuse(alloc, text, fault, detail, err),
+        Err(fault) => teller.refuse(alloc, text, fault),
     }
 }
 
@@ -153,9 +144,8 @@ fn certify_order<A: Allocator + Copy, Q: Read + Drop, W: Write, E: Write>(
     accepted: &Accepted<A>,
     order: &[u32],
     report: Q,
-    detail: Detail<'_>,
     out: &mut W,
-    err: &mut E,
+    teller: &mut Teller<'_, E>,
 ) -> u8
     ensures status { result ≤ 5 }
     ensures not_refused { result ≢ 1 }
@@ -173,11 +163,10 @@ fn certify_order<A: Allocator + Copy, Q: Read + Drop, W: Write, E: Write>(
             due.as_slice(),
             claim.report.as_str(),
             report,
-            detail,
             out,
-            err,
+            teller,
         ),
-        Err(fault) => refuse_order(fault, detail, err),
+        Err(fault) => teller.refuse_order(fault),
     }
 }
 
@@ -205,9 +194,8 @@ fn certify_due<A: Allocator + Copy, Q: Read + Drop, W: Write, E: Write>(
     due: &[u8],
     file: &str,
     report: Q,
-    detail: Detail<'_>,
     out: &mut W,
-    err: &mut E,
+    teller: &mut Teller<'_, E>,
 ) -> u8
     ensures status { result ≤ 5 }
     ensures not_refused { result ≢ 1 }
@@ -217,8 +205,8 @@ fn certify_due<A: Allocator + Copy, Q: Read + Drop, W: Write, E: Write>(
         (λ found. WritesPart (IsVerdict (λ text. text ≡ due.now) found) (W.contents out.old) (W.contents out.new)) }
 {
     match read_all(alloc, report) {
-        Ok(found) => tell_verdict(alloc, due, found.as_slice(), out, err),
-        Err(error) => not_read(file, &error, detail, err),
+        Ok(found) => tell_verdict(alloc, due, found.as_slice(), out, teller.err),
+        Err(error) => teller.not_read(file, &error),
     }
 }
 
@@ -227,8 +215,7 @@ fn order_of<A: Allocator + Copy, S: Read + Drop, E: Write>(
     alloc: A,
     file: &str,
     order: S,
-    detail: Detail<'_>,
-    err: &mut E,
+    teller: &mut Teller<'_, E>,
 ) -> Result<Vec<u32, A>, u8>
     ensures ok { IfOk result (λ v. IfSome (S.remaining order) (λ bytes. IsListedOrder bytes v.items)) }
     ensures status { IfErr result (λ s. (s ≡ 2) ⊎ (s ≡ 4)) }
@@ -236,21 +223,21 @@ fn order_of<A: Allocator + Copy, S: Read + Drop, E: Write>(
     match read_all(alloc, order) {
         Ok(listed) => match listed_order(alloc, listed.as_slice()) {
             Ok(Some(order)) => Ok(order),
-            Ok(None) => Err(bad_order(detail, err)),
-            Err(_) => Err(out_of_memory(err)),
+            Ok(None) => Err(bad_order(teller)),
+            Err(_) => Err(out_of_memory(teller.err)),
         },
-        Err(error) => Err(not_read(file, &error, detail, err)),
+        Err(error) => Err(teller.not_read(file, &error)),
     }
 }
 
 /// Says that a file lists no order, and how one is written where more is to be told.
-fn bad_order<E: Write>(detail: Detail<'_>, err: &mut E) -> u8
+fn bad_order<E: Write>(teller: &mut Teller<'_, E>) -> u8
     ensures { result ≡ 2 }
 {
-    let status = unusable("bad --order-file", err);
-    if detail.lines {
+    let status = unusable("bad --order-file", teller.err);
+    if teller.detail.lines {
         let _ = writeln!(
-            err,
+            teller.err,
             "an order is thread numbers between commas, blanks, tabs and ends of lines"
         );
     }

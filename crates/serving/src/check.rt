@@ -8,7 +8,7 @@ ghost use Rattle.serving.specs.inner.Serves.{ServesText};
 use crate::further::{tell_faults, tell_warnings};
 use crate::print::print_text;
 use crate::program::{SourceFault, read_accepted};
-use crate::tell::{Detail, refuse};
+use crate::tell::Teller;
 use command::CheckOptions;
 use separation::Accepted;
 use std::alloc::Allocator;
@@ -20,9 +20,8 @@ pub(crate) fn check<A: Allocator + Copy, W: Write, E: Write>(
     alloc: A,
     text: &str,
     told: CheckOptions,
-    detail: Detail<'_>,
     out: &mut W,
-    err: &mut E,
+    teller: &mut Teller<'_, E>,
 ) -> u8
     ensures { ServesText (SaysAccepted text.now) (IsRefused text.now)
         (λ written. Accepts text.now × (written ≡ codes "accepted\n")) result (W.contents out.old)
@@ -30,16 +29,16 @@ pub(crate) fn check<A: Allocator + Copy, W: Write, E: Write>(
 {
     match check_source(alloc, text) {
         Ok(accepted) => {
-            let status = print_text(b"accepted\n", out, err);
-            if told.warns || detail.further {
-                tell_warnings(alloc, text, &accepted, detail, err);
+            let status = print_text(b"accepted\n", out, teller.err);
+            if told.warns || teller.detail.further {
+                tell_warnings(alloc, text, &accepted, teller);
             }
             status
         }
         Err(fault) => {
-            let status = refuse(alloc, text, fault, detail, err);
-            if told.all || detail.further {
-                tell_faults(alloc, text, fault, detail, err);
+            let status = teller.refuse(alloc, text, fault);
+            if told.all || teller.detail.further {
+                tell_faults(alloc, text, fault, teller);
             }
             status
         }

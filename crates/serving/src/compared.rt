@@ -8,7 +8,7 @@ ghost use Rattle.serving.specs.inner.Serves.{ServesComparison};
 use crate::expected::expect;
 use crate::files::{Files, text_of};
 use crate::refined::refine;
-use crate::tell::{Detail, not_read};
+use crate::tell::Teller;
 use command::{Against, Comparison};
 use std::alloc::Allocator;
 use std::io::{Read, Write};
@@ -28,37 +28,34 @@ pub(crate) fn open_comparison<A: Allocator + Copy, F: Files, W: Write, E: Write>
     file: &str,
     comparison: &Comparison,
     files: &F,
-    detail: Detail<'_>,
     out: &mut W,
-    err: &mut E,
+    teller: &mut Teller<'_, E>,
 ) -> u8
     ensures { ServesComparison comparison.now (F.contents files.now (name_of comparison.now.against))
         (F.contents files.now file.now) result (W.contents out.old) (W.contents out.new) }
 {
     match files.open(file) {
-        Ok(source) => open_other(alloc, file, comparison, source, files, detail, out, err),
-        Err(error) => not_read(file, &error, detail, err),
+        Ok(source) => open_other(alloc, comparison, source, files, out, teller),
+        Err(error) => teller.not_read(file, &error),
     }
 }
 
 /// Opens what a source's outcomes are compared with, and compares them.
 fn open_other<A: Allocator + Copy, F: Files, R: Read + Drop, W: Write, E: Write>(
     alloc: A,
-    file: &str,
     comparison: &Comparison,
     source: R,
     files: &F,
-    detail: Detail<'_>,
     out: &mut W,
-    err: &mut E,
+    teller: &mut Teller<'_, E>,
 ) -> u8
     ensures { ServesComparison comparison.now (F.contents files.now (name_of comparison.now.against))
         (R.remaining source) result (W.contents out.old) (W.contents out.new) }
 {
     let name = name_of(&comparison.against);
     match files.open(name) {
-        Ok(other) => compare(alloc, file, comparison, source, other, detail, out, err),
-        Err(error) => not_read(name, &error, detail, err),
+        Ok(other) => compare(alloc, comparison, source, other, out, teller),
+        Err(error) => teller.not_read(name, &error),
     }
 }
 
@@ -66,19 +63,17 @@ fn open_other<A: Allocator + Copy, F: Files, R: Read + Drop, W: Write, E: Write>
 /// is not. The source is read first. The status is 0 where it is so, 5 where it is not, and else as `serve` says.
 pub(crate) fn compare<A: Allocator + Copy, R: Read + Drop, Q: Read + Drop, W: Write, E: Write>(
     alloc: A,
-    file: &str,
     comparison: &Comparison,
     source: R,
     other: Q,
-    detail: Detail<'_>,
     out: &mut W,
-    err: &mut E,
+    teller: &mut Teller<'_, E>,
 ) -> u8
     ensures { ServesComparison comparison.now (Q.remaining other) (R.remaining source) result (W.contents out.old)
         (W.contents out.new) }
 {
-    match text_of(alloc, file, source, detail, err) {
-        Ok(text) => compare_text(alloc, comparison, text.as_str(), other, detail, out, err),
+    match text_of(alloc, source, teller) {
+        Ok(text) => compare_text(alloc, comparison, text.as_str(), other, out, teller),
         Err(status) => status,
     }
 }
@@ -89,9 +84,8 @@ fn compare_text<A: Allocator + Copy, Q: Read + Drop, W: Write, E: Write>(
     comparison: &Comparison,
     text: &str,
     other: Q,
-    detail: Detail<'_>,
     out: &mut W,
-    err: &mut E,
+    teller: &mut Teller<'_, E>,
 ) -> u8
     ensures { ServesComparison comparison.now (Q.remaining other) (Some text.now) result (W.contents out.old)
         (W.contents out.new) }
@@ -103,25 +97,15 @@ fn compare_text<A: Allocator + Copy, Q: Read + Drop, W: Write, E: Write>(
         memory: comparison.memory,
     };
     match &comparison.against {
-        Against::Refined { file } => refine(
-            alloc,
-            limits,
-            text,
-            file.as_str(),
-            other,
-            detail,
-            out,
-            err,
-        ),
+        Against::Refined { file } => refine(alloc, limits, text, file.as_str(), other, out, teller),
         Against::Expected { file } => expect(
             alloc,
             limits,
             text,
             file.as_str(),
             other,
-            detail,
             out,
-            err,
+            teller,
         ),
     }
 }

@@ -1,6 +1,6 @@
 //! Where threads stand that trapped or go no further, told behind a report.
 
-use crate::tell::{Detail, show_line};
+use crate::tell::{Teller, show_line};
 use bytecode::{Code, InstrView};
 use lex::place;
 use lex::token::{Scalar, Span};
@@ -118,12 +118,11 @@ pub(crate) fn tell_ends<A: Allocator + Copy, T: HasEnd, E: Write>(
     text: &str,
     threads: &[T],
     stood: &[Stood],
-    detail: Detail<'_>,
-    err: &mut E,
+    teller: &mut Teller<'_, E>,
 ) {
-    if detail.lines {
+    if teller.detail.lines {
         let mut shown = Vec::new(alloc);
-        tell_threads(alloc, text, threads, stood, &mut shown, err);
+        tell_threads(alloc, text, threads, stood, &mut shown, teller.err);
     }
 }
 

@@ -15,7 +15,7 @@ use crate::compared::Limits;
 use crate::print::{REFUTED, print, print_text};
 use crate::request::bytes_of_memory;
 use crate::source::OrderFault;
-use crate::tell::{Detail, cannot_write, not_read, out_of_memory, refuse, refuse_order};
+use crate::tell::{Teller, cannot_write, out_of_memory};
 use crate::walked::OutcomesFound;
 use differences::difference;
 use report::list_text;
@@ -29,9 +29,8 @@ pub(crate) fn expect<A: Allocator + Copy, Q: Read + Drop, W: Write, E: Write>(
     text: &str,
     file: &str,
     expected: Q,
-    detail: Detail<'_>,
     out: &mut W,
-    err: &mut E,
+    teller: &mut Teller<'_, E>,
 ) -> u8
     ensures { ServesEither (SaysExpected (IsListOfOutcomes limits.threads text.now))
         (ShowsUnexpected (IsListOfOutcomes limits.threads text.now)) (HasNoCode text.now) (Q.remaining expected)
@@ -44,12 +43,11 @@ pub(crate) fn expect<A: Allocator + Copy, Q: Read + Drop, W: Write, E: Write>(
         u64::from(limits.steps),
         limits.limit,
         bytes_of_memory(limits.memory),
-        detail.progress,
-        err,
+        teller,
     ) {
-        Ok(found) => expect_outcomes(alloc, &found, file, expected, detail, out, err),
-        Err(OrderFault::Source(fault)) => refuse(alloc, text, fault, detail, err),
-        Err(OrderFault::Order(fault)) => refuse_order(fault, detail, err),
+        Ok(found) => expect_outcomes(alloc, &found, file, expected, out, teller),
+        Err(OrderFault::Source(fault)) => teller.refuse(alloc, text, fault),
+        Err(OrderFault::Order(fault)) => teller.refuse_order(fault),
     }
 }
 
@@ -59,9 +57,8 @@ fn expect_outcomes<A: Allocator + Copy, Q: Read + Drop, W: Write, E: Write>(
     found: &OutcomesFound<A>,
     file: &str,
     expected: Q,
-    detail: Detail<'_>,
     out: &mut W,
-    err: &mut E,
+    teller: &mut Teller<'_, E>,
 ) -> u8
     ensures status { result ≤ 5 }
     ensures not_refused { result ≢ 1 }
@@ -79,8 +76,8 @@ fn expect_outcomes<A: Allocator + Copy, Q: Read + Drop, W: Write, E: Write>(
         found.states,
         found.end,
     ) {
-        Ok(list) => expect_list(alloc, list.as_slice(), file, expected, detail, out, err),
-        Err(_) => out_of_memory(err),
+        Ok(list) => expect_list(alloc, list.as_slice(), file, expected, out, teller),
+        Err(_) => out_of_memory(teller.err),
     }
 }
 
@@ -90,9 +87,8 @@ fn expect_list<A: Allocator + Copy, Q: Read + Drop, W: Write, E: Write>(
     list: &[u8],
     file: &str,
     expected: Q,
-    detail: Detail<'_>,
     out: &mut W,
-    err: &mut E,
+    teller: &mut Teller<'_, E>,
 ) -> u8
     ensures status { result ≤ 5 }
     ensures not_refused { result ≢ 1 }
@@ -104,8 +100,8 @@ fn expect_list<A: Allocator + Copy, Q: Read + Drop, W: Write, E: Write>(
         (ShowsUnexpected (λ t. t ≡ list.now) bytes)) (W.contents out.old) (W.contents out.new)) }
 {
     match read_all(alloc, expected) {
-        Ok(expected) => tell_expected(alloc, list, expected.as_slice(), out, err),
-        Err(error) => not_read(file, &error, detail, err),
+        Ok(expected) => tell_expected(alloc, list, expected.as_slice(), out, teller.err),
+        Err(error) => teller.not_read(file, &error),
     }
 }
 

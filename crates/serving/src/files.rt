@@ -16,9 +16,7 @@ use crate::ask::open_asked;
 use crate::certify::open_claim;
 use crate::compared::open_comparison;
 use crate::request::{explain, explain_end, serve_program};
-use crate::tell::{
-    Detail, not_read, not_text, refuse_order, refuse_replay, refuse_schedule, too_long,
-};
+use crate::tell::{Detail, Teller, not_text, refuse_replay};
 use crate::timed::Timed;
 use bytecode::Code;
 use command::{Request, Steps, Task};
@@ -76,10 +74,14 @@ pub fn serve_files<
             let detail = Detail::of(file, *verbose, *format, err.is_terminal());
             match task {
                 Task::Outcomes { .. } => {
-                    let mut err = Timed::new(err, rt);
-                    open_source(rt, alloc, file, task, files, detail, out, &mut err)
+                    let mut timed = Timed::new(err, rt);
+                    let mut teller = Teller::new(&mut timed, detail);
+                    open_source(rt, alloc, file, task, files, out, &mut teller)
                 }
-                _ => open_source(rt, alloc, file, task, files, detail, out, err),
+                _ => {
+                    let mut teller = Teller::new(err, detail);
+                    open_source(rt, alloc, file, task, files, out, &mut teller)
+                }
             }
         }
         Request::Certify {
@@ -89,7 +91,8 @@ pub fn serve_files<
             claim,
         } => {
             let detail = Detail::of(file.as_str(), *verbose, *format, err.is_terminal());
-            open_claim(alloc, file.as_str(), claim, files, detail, out, err)
+            let mut teller = Teller::new(err, detail);
+            open_claim(alloc, file.as_str(), claim, files, out, &mut teller)
         }
         Request::Compare {
             file,
@@ -98,16 +101,9 @@ pub fn serve_files<
             comparison,
         } => {
             let detail = Detail::of(file.as_str(), *verbose, *format, err.is_terminal());
-            let mut err = Timed::new(err, rt);
-            open_comparison(
-                alloc,
-                file.as_str(),
-                comparison,
-                files,
-                detail,
-                out,
-                &mut err,
-            )
+            let mut timed = Timed::new(err, rt);
+            let mut teller = Teller::new(&mut timed, detail);
+            open_comparison(alloc, file.as_str(), comparison, files, out, &mut teller)
         }
         Request::Ask {
             file,
@@ -116,16 +112,9 @@ pub fn serve_files<
             questions,
         } => {
             let detail = Detail::of(file.as_str(), *verbose, *format, err.is_terminal());
-            let mut err = Timed::new(err, rt);
-            open_asked(
-                alloc,
-                file.as_str(),
-                questions,
-                files,
-                detail,
-                out,
-                &mut err,
-            )
+            let mut timed = Timed::new(err, rt);
+            let mut teller = Teller::new(&mut timed, detail);
+            open_asked(alloc, file.as_str(), questions, files, out, &mut teller)
         }
         Request::Explain { number } => explain(*number, out, err),
         Request::ExplainEnd { word, number } => explain_end(word.as_str(), *number, out, err),
@@ -139,16 +128,15 @@ fn open_source<H: Threads + Wait + Sync, F: Files, W: Write, E: Write + Send>(
     file: &str,
     task: &Task,
     files: &F,
-    detail: Detail<'_>,
     out: &mut W,
-    err: &mut E,
+    teller: &mut Teller<'_, E>,
 ) -> u8
     ensures { ServesTask task.now (schedule_in (F.contents files.now) (schedule_of task.now))
         (F.contents files.now file.now) result (W.contents out.old) (W.contents out.new) }
 {
     match files.open(file) {
-        Ok(source) => open_schedule(rt, alloc, file, task, source, files, detail, out, err),
-        Err(error) => not_read(file, &error, detail, err),
+        Ok(source) => open_schedule(rt, alloc, task, source, files, out, teller),
+        Err(error) => teller.not_read(file, &error),
     }
 }
 
@@ -156,35 +144,21 @@ fn open_source<H: Threads + Wait + Sync, F: Files, W: Write, E: Write + Send>(
 fn open_schedule<H: Threads + Wait + Sync, F: Files, R: Read + Drop, W: Write, E: Write + Send>(
     rt: &H,
     alloc: Global,
-    file: &str,
     task: &Task,
     source: R,
     files: &F,
-    detail: Detail<'_>,
     out: &mut W,
-    err: &mut E,
+    teller: &mut Teller<'_, E>,
 ) -> u8
     ensures { ServesTask task.now (schedule_in (F.contents files.now) (schedule_of task.now))
         (R.remaining source) result (W.contents out.old) (W.contents out.new) }
 {
     match schedule_of(task) {
         Some(name) => match files.open(name) {
-            Ok(schedule) => serve_program(
-                rt, alloc, file, task, source, schedule, detail, out, err,
-            ),
-            Err(error) => not_read(name, &error, detail, err),
+            Ok(schedule) => serve_program(rt, alloc, task, source, schedule, out, teller),
+            Err(error) => teller.not_read(name, &error),
         },
-        None => serve_program(
-            rt,
-            alloc,
-            file,
-            task,
-            source,
-            b"".as_slice(),
-            detail,
-            out,
-            err,
-        ),
+        None => serve_program(rt, alloc, task, source, b"".as_slice(), out, teller),
     }
 }
 
@@ -212,10 +186,8 @@ fn schedule_of(task: &Task) -> Option<&str>
 /// Reads a source. What is wrong with it is told, and the error is then the exit status.
 pub(crate) fn text_of<A: Allocator + Copy, R: Read + Drop, E: Write>(
     alloc: A,
-    file: &str,
     source: R,
-    detail: Detail<'_>,
-    err: &mut E,
+    teller: &mut Teller<'_, E>,
 ) -> Result<String<A>, u8>
     ensures ok { IfOk result (λ s. IfSome (R.remaining source) (λ bytes. string_bytes s ≡ bytes)) }
     ensures status { IfErr result (λ s. (s ≡ 1) × IfSome (R.remaining source) (λ bytes. IsRefused bytes) ⊎ (s ≡ 2)
@@ -223,9 +195,12 @@ pub(crate) fn text_of<A: Allocator + Copy, R: Read + Drop, E: Write>(
 {
     match read_source(alloc, source) {
         Ok(SourceText::Text(text)) => Ok(text),
-        Ok(SourceText::NotText) => Err(not_text(file, err)),
-        Ok(SourceText::TooLong) => Err(too_long(alloc, detail, err)),
-        Err(error) => Err(not_read(file, &error, detail, err)),
+        Ok(SourceText::NotText) => Err(not_text(teller.detail.file, teller.err)),
+        Ok(SourceText::TooLong) => Err(teller.too_long(alloc)),
+        Err(error) => {
+            let file = teller.detail.file;
+            Err(teller.not_read(file, &error))
+        }
     }
 }
 
@@ -289,18 +264,15 @@ pub(crate) fn lines_of<A: Allocator + Copy, S: Read + Drop, E: Write>(
     threads: u32,
     steps: &Steps,
     schedule: S,
-    detail: Detail<'_>,
-    err: &mut E,
+    teller: &mut Teller<'_, E>,
 ) -> Result<Vec<Line, A>, u8>
     ensures lines { IfOk result (λ v. AreLinesOf steps.now code.now threads (S.remaining schedule) v.items) }
     ensures status { IfErr result (λ s. (s ≡ 2) ⊎ (s ≡ 4)) }
 {
     match steps {
-        Steps::Schedule { file } => lines_read(alloc, file.as_str(), schedule, detail, err),
-        Steps::Seed { seed, count } => lines_picked(alloc, *seed, threads, *count, detail, err),
-        Steps::Order { order } => {
-            lines_in_order(alloc, code, threads, order.as_slice(), detail, err)
-        }
+        Steps::Schedule { file } => lines_read(alloc, file.as_str(), schedule, teller),
+        Steps::Seed { seed, count } => lines_picked(alloc, *seed, threads, *count, teller),
+        Steps::Order { order } => { lines_in_order(alloc, code, threads, order.as_slice(), teller) }
     }
 }
 
@@ -310,8 +282,7 @@ pub(crate) fn lines_in_order<A: Allocator + Copy, E: Write>(
     code: &Code<A>,
     threads: u32,
     order: &[u32],
-    detail: Detail<'_>,
-    err: &mut E,
+    teller: &mut Teller<'_, E>,
 ) -> Result<Vec<Line, A>, u8>
     ensures lines { IfOk result (λ v. AreLinesOfOrder code.now threads order.now v.items) }
     ensures few { IfOk result (λ v. counts v.items ≤ MOST_STEPS) }
@@ -319,16 +290,10 @@ pub(crate) fn lines_in_order<A: Allocator + Copy, E: Write>(
 {
     match turns(alloc, code, threads, order) {
         Ok(found) => Ok(found),
-        Err(TurnsFault::OutOfMemory) => Err(refuse_replay(WorldFault::OutOfMemory, err)),
-        Err(TurnsFault::WrongThreads) => Err(refuse_replay(WorldFault::WrongThreads, err)),
-        Err(TurnsFault::Stranger) => Err(refuse_order(MeaningFault::Stranger, detail, err)),
-        Err(TurnsFault::TooLong) => Err(refuse_schedule(
-            alloc,
-            "",
-            ScheduleFault::TooLong,
-            detail,
-            err,
-        )),
+        Err(TurnsFault::OutOfMemory) => Err(refuse_replay(WorldFault::OutOfMemory, teller.err)),
+        Err(TurnsFault::WrongThreads) => Err(refuse_replay(WorldFault::WrongThreads, teller.err)),
+        Err(TurnsFault::Stranger) => Err(teller.refuse_order(MeaningFault::Stranger)),
+        Err(TurnsFault::TooLong) => Err(teller.refuse_schedule(alloc, "", ScheduleFault::TooLong)),
     }
 }
 
@@ -337,8 +302,7 @@ fn lines_read<A: Allocator + Copy, S: Read + Drop, E: Write>(
     alloc: A,
     file: &str,
     schedule: S,
-    detail: Detail<'_>,
-    err: &mut E,
+    teller: &mut Teller<'_, E>,
 ) -> Result<Vec<Line, A>, u8>
     ensures lines { IfOk result (λ v. IsSchedule (S.remaining schedule) v.items) }
     ensures status { IfErr result (λ s. (s ≡ 2) ⊎ (s ≡ 4)) }
@@ -346,10 +310,10 @@ fn lines_read<A: Allocator + Copy, S: Read + Drop, E: Write>(
     match read_text(alloc, schedule) {
         Ok(Some(text)) => match read_schedule(alloc, text.as_str()) {
             Ok(found) => Ok(found),
-            Err(fault) => Err(refuse_schedule(alloc, text.as_str(), fault, detail, err)),
+            Err(fault) => Err(teller.refuse_schedule(alloc, text.as_str(), fault)),
         },
-        Ok(None) => Err(not_text(file, err)),
-        Err(error) => Err(not_read(file, &error, detail, err)),
+        Ok(None) => Err(not_text(file, teller.err)),
+        Err(error) => Err(teller.not_read(file, &error)),
     }
 }
 
@@ -359,18 +323,17 @@ pub(crate) fn lines_picked<A: Allocator + Copy, E: Write>(
     seed: u32,
     threads: u32,
     count: u32,
-    detail: Detail<'_>,
-    err: &mut E,
+    teller: &mut Teller<'_, E>,
 ) -> Result<Vec<Line, A>, u8>
     ensures lines { IfOk result (λ v. v.items ≡ lines_of_seed seed threads count) }
     ensures few { OnOk result (count ≤ MOST_STEPS) }
     ensures status { IfErr result (λ s. (s ≡ 2) ⊎ (s ≡ 4)) }
 {
     if threads == 0 {
-        return Err(refuse_replay(WorldFault::WrongThreads, err));
+        return Err(refuse_replay(WorldFault::WrongThreads, teller.err));
     }
     match seeded(alloc, u64::from(seed), threads, count) {
         Ok(found) => Ok(found),
-        Err(fault) => Err(refuse_schedule(alloc, "", fault, detail, err)),
+        Err(fault) => Err(teller.refuse_schedule(alloc, "", fault)),
     }
 }

@@ -2,7 +2,7 @@
 //! refused.
 
 use crate::program::SourceFault;
-use crate::tell::{Detail, show_line, tell_with_line};
+use crate::tell::{Teller, show_line};
 use command::Format;
 use further_faults::{Fault, MOST_FAULTS, further_faults};
 use lex::place;
@@ -20,18 +20,20 @@ pub(crate) fn tell_warnings<A: Allocator + Copy, E: Write>(
     alloc: A,
     text: &str,
     accepted: &Accepted<A>,
-    detail: Detail<'_>,
-    err: &mut E,
+    teller: &mut Teller<'_, E>,
 ) {
     if let Ok(found) = warnings(alloc, accepted) {
         'warnings: for (number, warning) in found.iter().enumerate() {
             if number < MOST_WARNINGS {
-                tell_warning(alloc, text, *warning, detail, err);
+                tell_warning(alloc, text, *warning, teller);
             }
         }
         let more = found.len().saturating_sub(MOST_WARNINGS);
         if more > 0 {
-            let _ = writeln!(err, "txc: warnings: {MOST_WARNINGS}, and {more} more");
+            let _ = writeln!(
+                teller.err,
+                "txc: warnings: {MOST_WARNINGS}, and {more} more"
+            );
         }
     }
 }
@@ -41,31 +43,31 @@ fn tell_warning<A: Allocator + Copy, E: Write>(
     alloc: A,
     text: &str,
     warning: Warning,
-    detail: Detail<'_>,
-    err: &mut E,
+    teller: &mut Teller<'_, E>,
 ) {
     let name = warning.kind.name();
     let words = warning_words(name);
     let what = words.what;
     let (line, column) = place(text, warning.span.start.min(text.len()));
-    match detail.format {
+    match teller.detail.format {
         Format::Plain => {
-            let _ = writeln!(err, "txc: warning {name} at {line}:{column}: {what}");
+            let _ = writeln!(teller.err, "txc: warning {name} at {line}:{column}: {what}");
         }
         Format::Short => {
-            let _ = write_shown(detail.file, "", err);
-            let _ = writeln!(err, ":{line}:{column}: warning: {what} [{name}]");
+            let _ = write_shown(teller.detail.file, "", teller.err);
+            let _ = writeln!(teller.err, ":{line}:{column}: warning: {what} [{name}]");
         }
         Format::Json => {
             let (span, other) = (warning.span, warning.other);
-            if let Ok(object) = warning_line(alloc, detail.file, text, span, other, name) {
-                let _ = err.write_all(object.as_slice());
+            let file = teller.detail.file;
+            if let Ok(object) = warning_line(alloc, file, text, span, other, name) {
+                let _ = teller.err.write_all(object.as_slice());
             }
         }
     }
-    if detail.lines {
-        show_line(alloc, text, warning.span, err);
-        show_advice(text, warning, words, err);
+    if teller.detail.lines {
+        show_line(alloc, text, warning.span, teller.err);
+        show_advice(text, warning, words, teller.err);
     }
 }
 
@@ -94,13 +96,12 @@ pub(crate) fn tell_faults<A: Allocator + Copy, E: Write>(
     alloc: A,
     text: &str,
     first: SourceFault,
-    detail: Detail<'_>,
-    err: &mut E,
+    teller: &mut Teller<'_, E>,
 ) {
     if let Ok(found) = further_faults(alloc, text) {
         'faults: for fault in found.iter() {
             if !is_first(*fault, first) {
-                tell_with_line(alloc, text, fault.number, fault.span, detail, err);
+                teller.tell_with_line(alloc, text, fault.number, fault.span);
             }
         }
         let count = found.len();
@@ -109,9 +110,9 @@ pub(crate) fn tell_faults<A: Allocator + Copy, E: Write>(
         } else {
             ""
         };
-        match detail.format {
+        match teller.detail.format {
             Format::Plain if count > 1 => {
-                let _ = writeln!(err, "txc: faults: {count}{more}");
+                let _ = writeln!(teller.err, "txc: faults: {count}{more}");
             }
             Format::Plain | Format::Short | Format::Json => {}
         }

@@ -42,7 +42,7 @@ pub use replays::{Replayed, lines_shown, replay_code};
 pub use request::serve_alone;
 pub use served::serve;
 pub use source::{OrderFault, run_in_order};
-pub use tell::{Detail, not_read, refuse_run, tell_usage, unread_words};
+pub use tell::{Detail, Teller, tell_usage, unread_words};
 pub use timed::Timed;
 pub use walked::OutcomesFound;
 pub use words::serve_words;

@@ -4,7 +4,7 @@
 use crate::ends::{is_some_new, tell_threads};
 use crate::program::read_accepted;
 use crate::source::order_accepted;
-use crate::tell::Detail;
+use crate::tell::Teller;
 use crate::walked::OutcomesFound;
 use lex::token::Span;
 use report::{End, ReportedOrder, ThreadShown, WalkEnd};
@@ -20,19 +20,22 @@ pub(crate) fn tell_listed_ends<A: Allocator + Copy, E: Write>(
     text: &str,
     threads: u32,
     found: &OutcomesFound<A>,
-    detail: Detail<'_>,
-    err: &mut E,
+    teller: &mut Teller<'_, E>,
 ) {
-    if !detail.lines {
+    if !teller.detail.lines {
         return;
     }
     if let Ok(accepted) = read_accepted(alloc, text) {
         let mut shown = Vec::new(alloc);
         let (outcomes, stuck) = (found.outcomes.as_slice(), found.stuck.as_slice());
-        tell_orders(alloc, text, &accepted, threads, outcomes, &mut shown, err);
-        tell_orders(alloc, text, &accepted, threads, stuck, &mut shown, err);
+        tell_orders(
+            alloc, text, &accepted, threads, outcomes, &mut shown, teller.err,
+        );
+        tell_orders(
+            alloc, text, &accepted, threads, stuck, &mut shown, teller.err,
+        );
     }
-    tell_stop(found.end, err);
+    tell_stop(found.end, teller.err);
 }
 
 /// Says which option lets a walk go on that was stopped.

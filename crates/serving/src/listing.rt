@@ -7,7 +7,7 @@ ghost use Rattle.serving.specs.inner.Serves.{ServesText};
 
 use crate::print::print_text;
 use crate::program::{SourceFault, compile};
-use crate::tell::{Detail, refuse};
+use crate::tell::Teller;
 use bytecode::listing;
 use std::alloc::Allocator;
 use std::io::Write;
@@ -16,16 +16,15 @@ use std::io::Write;
 pub(crate) fn list<A: Allocator + Copy, W: Write, E: Write>(
     alloc: A,
     text: &str,
-    detail: Detail<'_>,
     out: &mut W,
-    err: &mut E,
+    teller: &mut Teller<'_, E>,
 ) -> u8
     ensures { ServesText (PrintsListing text.now) (HasNoCode text.now) (ShowsListing text.now) result
         (W.contents out.old) (W.contents out.new) }
 {
     match list_source(alloc, text) {
-        Ok(listed) => print_text(listed.as_str().as_bytes(), out, err),
-        Err(fault) => refuse(alloc, text, fault, detail, err),
+        Ok(listed) => print_text(listed.as_str().as_bytes(), out, teller.err),
+        Err(fault) => teller.refuse(alloc, text, fault),
     }
 }
 

@@ -11,7 +11,7 @@ ghost use Rattle.serving.specs.inner.Serves.{ServesText};
 
 use crate::program::{Compiled, unit_of};
 use crate::replays::{Replayed, print_for_replay, replay_text};
-use crate::tell::{Detail, out_of_memory};
+use crate::tell::{Teller, out_of_memory};
 use command::Steps;
 use picture::replay_picture;
 use std::alloc::Allocator;
@@ -21,25 +21,23 @@ use world::StopReason;
 /// Replays steps of a source's threads, and draws them from an access on.
 pub(crate) fn draw<A: Allocator + Copy, S: Read + Drop, W: Write, E: Write>(
     alloc: A,
-    file: &str,
     text: &str,
     threads: u32,
     from: u32,
     steps: &Steps,
     schedule: S,
-    detail: Detail<'_>,
     out: &mut W,
-    err: &mut E,
+    teller: &mut Teller<'_, E>,
 ) -> u8
     ensures { ServesText
         (PrintsPicture (λ svg shown. ReplaysDrawn threads from steps.now (S.remaining schedule) text.now svg shown))
         (HasNoCode text.now) (IsReplayPicture threads from steps.now (S.remaining schedule) text.now) result
         (W.contents out.old) (W.contents out.new) }
 {
-    match replay_text(alloc, text, threads, steps, schedule, detail, err) {
+    match replay_text(alloc, text, threads, steps, schedule, teller) {
         Ok((compiled, replayed)) => {
             print_picture(
-                alloc, file, text, &compiled, threads, from, &replayed, detail, out, err,
+                alloc, text, &compiled, threads, from, &replayed, out, teller,
             )
         }
         Err(status) => status,
@@ -79,15 +77,13 @@ fn picture_of<A: Allocator + Copy>(
 /// Prints the picture of a replay. Gives the exit status as `print_for_replay` does.
 fn print_picture<A: Allocator + Copy, W: Write, E: Write>(
     alloc: A,
-    file: &str,
     text: &str,
     compiled: &Compiled<A>,
     threads: u32,
     from: u32,
     replayed: &Replayed<A>,
-    detail: Detail<'_>,
     out: &mut W,
-    err: &mut E,
+    teller: &mut Teller<'_, E>,
 ) -> u8
     ensures status { result ≤ 4 }
     ensures whole { (result ≡ 0) ⊎ (result ≡ 3) → replayed.now.stop ≡ None }
@@ -101,8 +97,9 @@ fn print_picture<A: Allocator + Copy, W: Write, E: Write>(
         written) (W.contents out.old) (W.contents out.new) }
     ensures not_refused { result ≢ 1 }
 {
+    let file = teller.detail.file;
     match picture_of(alloc, file, text, compiled, threads, from, replayed) {
-        Some(svg) => print_for_replay(svg.as_slice(), replayed, detail, out, err),
-        None => out_of_memory(err),
+        Some(svg) => print_for_replay(svg.as_slice(), replayed, out, teller),
+        None => out_of_memory(teller.err),
     }
 }

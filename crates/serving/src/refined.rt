@@ -21,7 +21,7 @@ use crate::files::text_of;
 use crate::print::{REFUSED, REFUTED, STOPPED, print, print_text};
 use crate::program::{Compiled, SourceFault, compile};
 use crate::request::bytes_of_memory;
-use crate::tell::{Detail, cannot_write, out_of_memory, refuse, refuse_order};
+use crate::tell::{Teller, cannot_write, out_of_memory};
 use crate::walked::{OutcomesFound, outcomes_in};
 use command::Format;
 use messages::write_shown;
@@ -37,18 +37,18 @@ pub(crate) fn refine<A: Allocator + Copy, Q: Read + Drop, W: Write, E: Write>(
     text: &str,
     name: &str,
     other: Q,
-    detail: Detail<'_>,
     out: &mut W,
-    err: &mut E,
+    teller: &mut Teller<'_, E>,
 ) -> u8
     ensures { ServesEither (SaysRefined name.now limits.threads text.now)
         (ShowsOther name.now limits.threads text.now)
         (HasNoCode text.now ⊎ IfSome (Q.remaining other) (λ bytes. HasNoCode bytes)) (Q.remaining other) result
         (W.contents out.old) (W.contents out.new) }
 {
-    match text_of(alloc, name, other, detail.of_file(name), err) {
-        Ok(other) => refine_text(alloc, limits, text, name, other.as_str(), detail, out, err),
-        Err(status) => tell_whose(status, name, detail, err),
+    let mut told = Teller::new(teller.err, teller.detail.of_file(name));
+    match text_of(alloc, other, &mut told) {
+        Ok(other) => refine_text(alloc, limits, text, name, other.as_str(), out, teller),
+        Err(status) => tell_whose(status, name, teller),
     }
 }
 
@@ -59,9 +59,8 @@ fn refine_text<A: Allocator + Copy, W: Write, E: Write>(
     text: &str,
     name: &str,
     other: &str,
-    detail: Detail<'_>,
     out: &mut W,
-    err: &mut E,
+    teller: &mut Teller<'_, E>,
 ) -> u8
     ensures { ServesEither (SaysRefined name.now limits.threads text.now)
         (ShowsOther name.now limits.threads text.now) (HasNoCode text.now ⊎ HasNoCode other.now) (Some other.now)
@@ -69,10 +68,10 @@ fn refine_text<A: Allocator + Copy, W: Write, E: Write>(
 {
     match compile(alloc, text) {
         Ok(this) => match compile(alloc, other) {
-            Ok(that) => refine_programs(alloc, limits, &this, name, &that, detail, out, err),
-            Err(fault) => refuse_other(alloc, other, fault, name, detail, err),
+            Ok(that) => refine_programs(alloc, limits, &this, name, &that, out, teller),
+            Err(fault) => refuse_other(alloc, other, fault, name, teller),
         },
-        Err(fault) => refuse(alloc, text, fault, detail, err),
+        Err(fault) => teller.refuse(alloc, text, fault),
     }
 }
 
@@ -82,15 +81,15 @@ fn refuse_other<A: Allocator + Copy, E: Write>(
     text: &str,
     fault: SourceFault,
     name: &str,
-    detail: Detail<'_>,
-    err: &mut E,
+    teller: &mut Teller<'_, E>,
 ) -> u8
     ensures within { result ≤ 4 }
     ensures not_ended { result ≢ 0 }
     ensures refused { result ≡ 1 → is_some (span_of_source fault) ≡ true }
 {
-    let status = refuse(alloc, text, fault, detail.of_file(name), err);
-    tell_whose(status, name, detail, err)
+    let mut told = Teller::new(teller.err, teller.detail.of_file(name));
+    let status = told.refuse(alloc, text, fault);
+    tell_whose(status, name, teller)
 }
 
 /// Says whether each outcome of a program is one of another's.
@@ -100,9 +99,8 @@ fn refine_programs<A: Allocator + Copy, W: Write, E: Write>(
     this: &Compiled<A>,
     name: &str,
     that: &Compiled<A>,
-    detail: Detail<'_>,
     out: &mut W,
-    err: &mut E,
+    teller: &mut Teller<'_, E>,
 ) -> u8
     requires code { IsCodeOf (program_of this.now.accepted.safe.typed.unit) this.now.code }
     requires other_code { IsCodeOf (program_of that.now.accepted.safe.typed.unit) that.now.code }
@@ -117,9 +115,9 @@ fn refine_programs<A: Allocator + Copy, W: Write, E: Write>(
         (ShowsBeyond name.now limits.threads (program_of this.now.accepted.safe.typed.unit)
         (program_of that.now.accepted.safe.typed.unit))) (W.contents out.old) (W.contents out.new) }
 {
-    match outcomes_found(alloc, limits, this, detail, err) {
-        Ok(found) => match outcomes_found(alloc, limits, that, detail, err) {
-            Ok(others) => tell_found(alloc, &found, name, &others, detail, out, err),
+    match outcomes_found(alloc, limits, this, teller) {
+        Ok(found) => match outcomes_found(alloc, limits, that, teller) {
+            Ok(others) => tell_found(alloc, &found, name, &others, out, teller),
             Err(status) => status,
         },
         Err(status) => status,
@@ -131,8 +129,7 @@ fn outcomes_found<A: Allocator + Copy, E: Write>(
     alloc: A,
     limits: Limits,
     compiled: &Compiled<A>,
-    detail: Detail<'_>,
-    err: &mut E,
+    teller: &mut Teller<'_, E>,
 ) -> Result<OutcomesFound<A>, u8>
     requires code { IsCodeOf (program_of compiled.now.accepted.safe.typed.unit) compiled.now.code }
     ensures are { IfOk result
@@ -148,11 +145,10 @@ fn outcomes_found<A: Allocator + Copy, E: Write>(
         steps,
         limits.limit,
         bytes_of_memory(limits.memory),
-        detail.progress,
-        err,
+        teller,
     ) {
         Ok(found) => Ok(found),
-        Err(fault) => Err(refuse_order(fault, detail, err)),
+        Err(fault) => Err(teller.refuse_order(fault)),
     }
 }
 
@@ -169,9 +165,8 @@ fn tell_found<A: Allocator + Copy, W: Write, E: Write>(
     found: &OutcomesFound<A>,
     name: &str,
     others: &OutcomesFound<A>,
-    detail: Detail<'_>,
     out: &mut W,
-    err: &mut E,
+    teller: &mut Teller<'_, E>,
 ) -> u8
     ensures status { result ≤ 5 }
     ensures not_refused { result ≢ 1 }
@@ -187,15 +182,15 @@ fn tell_found<A: Allocator + Copy, W: Write, E: Write>(
         (W.contents out.old) (W.contents out.new) }
 {
     if !is_whole(found) {
-        return tell_stopped(detail.file, found.end, err);
+        return tell_stopped(teller.detail.file, found.end, teller.err);
     }
     if !is_whole(others) {
-        return tell_stopped(name, others.end, err);
+        return tell_stopped(name, others.end, teller.err);
     }
     match first_beyond(alloc, found.outcomes.as_slice(), others.outcomes.as_slice()) {
-        Ok(Some(one)) => tell_beyond(alloc, name, one, out, err),
-        Ok(None) => tell_refined(alloc, found, name, others, detail, out, err),
-        Err(_) => out_of_memory(err),
+        Ok(Some(one)) => tell_beyond(alloc, name, one, out, teller.err),
+        Ok(None) => tell_refined(alloc, found, name, others, out, teller),
+        Err(_) => out_of_memory(teller.err),
     }
 }
 
@@ -228,9 +223,8 @@ fn tell_refined<A: Allocator + Copy, W: Write, E: Write>(
     found: &OutcomesFound<A>,
     name: &str,
     others: &OutcomesFound<A>,
-    detail: Detail<'_>,
     out: &mut W,
-    err: &mut E,
+    teller: &mut Teller<'_, E>,
 ) -> u8
     ensures status { (result ≡ 0) ⊎ (result ≡ 4) }
     ensures said { result ≡ 0 → Appends (W.contents out.old) (W.contents out.new)
@@ -242,7 +236,7 @@ fn tell_refined<A: Allocator + Copy, W: Write, E: Write>(
         (W.contents out.old) (W.contents out.new) }
 {
     if !found.stuck.is_empty() {
-        return tell_stuck(detail.file, err);
+        return tell_stuck(teller.detail.file, teller.err);
     }
     match refined_text(
         alloc,
@@ -250,19 +244,19 @@ fn tell_refined<A: Allocator + Copy, W: Write, E: Write>(
         found.outcomes.len() as u64,
         others.outcomes.len() as u64,
     ) {
-        Ok(text) => print_text(text.as_slice(), out, err),
-        Err(_) => out_of_memory(err),
+        Ok(text) => print_text(text.as_slice(), out, teller.err),
+        Err(_) => out_of_memory(teller.err),
     }
 }
 
 /// Says of which file the fault is that was told, where it is not told by itself. Gives the exit status.
-fn tell_whose<E: Write>(status: u8, name: &str, detail: Detail<'_>, err: &mut E) -> u8
+fn tell_whose<E: Write>(status: u8, name: &str, teller: &mut Teller<'_, E>) -> u8
     ensures { result ≡ status }
 {
-    if status == REFUSED && detail.format == Format::Plain {
-        let _ = err.write_all(b"txc: that is of ");
-        let _ = write_shown(name, "", err);
-        let _ = err.write_all(b"\n");
+    if status == REFUSED && teller.detail.format == Format::Plain {
+        let _ = teller.err.write_all(b"txc: that is of ");
+        let _ = write_shown(name, "", teller.err);
+        let _ = teller.err.write_all(b"\n");
     }
     status
 }

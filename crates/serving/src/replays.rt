@@ -29,7 +29,7 @@ use crate::globals::globals_shown;
 use crate::laws::reports_are_orders;
 use crate::print::{print, print_text, status_of};
 use crate::program::{Compiled, compile, unit_of};
-use crate::tell::{Detail, cannot_write, out_of_memory, refuse, refuse_replay, refuse_step};
+use crate::tell::{Teller, cannot_write, out_of_memory, refuse_replay};
 use bytecode::Code;
 use command::Steps;
 use containers::Items;
@@ -47,9 +47,8 @@ pub(crate) fn replay_source<A: Allocator + Copy, S: Read + Drop, W: Write, E: Wr
     threads: u32,
     steps: &Steps,
     schedule: S,
-    detail: Detail<'_>,
     out: &mut W,
-    err: &mut E,
+    teller: &mut Teller<'_, E>,
 ) -> u8
     ensures { ServesText
         (PrintsReport (λ shown. RunsInSomeOrder threads text.now (behind_events shown) × Accepts text.now
@@ -58,10 +57,10 @@ pub(crate) fn replay_source<A: Allocator + Copy, S: Read + Drop, W: Write, E: Wr
         (W.contents out.new) }
 {
     reports_are_orders();
-    match replay_text(alloc, text, threads, steps, schedule, detail, err) {
+    match replay_text(alloc, text, threads, steps, schedule, teller) {
         Ok((_compiled, replayed)) => {
-            let status = print_replay(alloc, &replayed, detail, out, err);
-            tell_replayed(alloc, text, &replayed, detail, err);
+            let status = print_replay(alloc, &replayed, out, teller);
+            tell_replayed(alloc, text, &replayed, teller);
             status
         }
         Err(status) => status,
@@ -73,11 +72,10 @@ fn tell_replayed<A: Allocator + Copy, E: Write>(
     alloc: A,
     text: &str,
     replayed: &Replayed<A>,
-    detail: Detail<'_>,
-    err: &mut E,
+    teller: &mut Teller<'_, E>,
 ) {
     let found = replayed.printed.threads.as_slice();
-    tell_ends(alloc, text, found, replayed.stood.as_slice(), detail, err);
+    tell_ends(alloc, text, found, replayed.stood.as_slice(), teller);
 }
 
 /// Replays steps of a source's threads, and prints what is shown of each and their report.
@@ -87,9 +85,8 @@ pub(crate) fn show_steps<A: Allocator + Copy, S: Read + Drop, W: Write, E: Write
     threads: u32,
     steps: &Steps,
     schedule: S,
-    detail: Detail<'_>,
     out: &mut W,
-    err: &mut E,
+    teller: &mut Teller<'_, E>,
 ) -> u8
     ensures { ServesText
         (PrintsTimeline (λ lines shown. RunsInSomeOrder threads text.now (behind_events shown) × Accepts text.now
@@ -98,18 +95,10 @@ pub(crate) fn show_steps<A: Allocator + Copy, S: Read + Drop, W: Write, E: Write
         (W.contents out.new) }
 {
     reports_are_orders();
-    match replay_text(alloc, text, threads, steps, schedule, detail, err) {
+    match replay_text(alloc, text, threads, steps, schedule, teller) {
         Ok((compiled, replayed)) => {
-            let status = print_timeline(
-                alloc,
-                &compiled.code,
-                threads,
-                &replayed,
-                detail,
-                out,
-                err,
-            );
-            tell_replayed(alloc, text, &replayed, detail, err);
+            let status = print_timeline(alloc, &compiled.code, threads, &replayed, out, teller);
+            tell_replayed(alloc, text, &replayed, teller);
             status
         }
         Err(status) => status,
@@ -123,8 +112,7 @@ pub(crate) fn replay_text<A: Allocator + Copy, S: Read + Drop, E: Write>(
     threads: u32,
     steps: &Steps,
     schedule: S,
-    detail: Detail<'_>,
-    err: &mut E,
+    teller: &mut Teller<'_, E>,
 ) -> Result<(Compiled<A>, Replayed<A>), u8>
     ensures ok { IfOk result
         (λ r. IsReplayOfText threads steps.now (S.remaining schedule) text.now r.0.code r.1.made.items r.1.stop
@@ -132,22 +120,14 @@ pub(crate) fn replay_text<A: Allocator + Copy, S: Read + Drop, E: Write>(
     ensures status { IfErr result (λ s. (s ≡ 1) × HasNoCode text.now ⊎ (s ≡ 2) ⊎ (s ≡ 4)) }
 {
     match compile(alloc, text) {
-        Ok(compiled) => match lines_of(
-            alloc,
-            &compiled.code,
-            threads,
-            steps,
-            schedule,
-            detail,
-            err,
-        ) {
+        Ok(compiled) => match lines_of(alloc, &compiled.code, threads, steps, schedule, teller) {
             Ok(found) => match replay_code(alloc, &compiled, threads, found.as_slice()) {
                 Ok(replayed) => Ok((compiled, replayed)),
-                Err(fault) => Err(refuse_replay(fault, err)),
+                Err(fault) => Err(refuse_replay(fault, teller.err)),
             },
             Err(status) => Err(status),
         },
-        Err(fault) => Err(refuse(alloc, text, fault, detail, err)),
+        Err(fault) => Err(teller.refuse(alloc, text, fault)),
     }
 }
 
@@ -158,22 +138,21 @@ pub(crate) fn print_schedule<A: Allocator + Copy, W: Write, E: Write>(
     threads: u32,
     seed: u32,
     count: u32,
-    detail: Detail<'_>,
     out: &mut W,
-    err: &mut E,
+    teller: &mut Teller<'_, E>,
 ) -> u8
     ensures { ServesText (PrintsSchedule (lines_of_seed seed threads count) text.now) (HasNoCode text.now)
         (IsSeedSchedule seed threads count text.now) result (W.contents out.old) (W.contents out.new) }
 {
     match compile(alloc, text) {
-        Ok(_compiled) => match lines_picked(alloc, seed, threads, count, detail, err) {
+        Ok(_compiled) => match lines_picked(alloc, seed, threads, count, teller) {
             Ok(found) => match write_schedule(alloc, found.as_slice()) {
-                Ok(written) => print_text(written.as_str().as_bytes(), out, err),
-                Err(_) => out_of_memory(err),
+                Ok(written) => print_text(written.as_str().as_bytes(), out, teller.err),
+                Err(_) => out_of_memory(teller.err),
             },
             Err(status) => status,
         },
-        Err(fault) => refuse(alloc, text, fault, detail, err),
+        Err(fault) => teller.refuse(alloc, text, fault),
     }
 }
 
@@ -183,22 +162,21 @@ pub(crate) fn print_order<A: Allocator + Copy, W: Write, E: Write>(
     text: &str,
     threads: u32,
     order: &[u32],
-    detail: Detail<'_>,
     out: &mut W,
-    err: &mut E,
+    teller: &mut Teller<'_, E>,
 ) -> u8
     ensures { ServesText (PrintsOrder threads order.now text.now) (HasNoCode text.now)
         (IsOrderSchedule threads order.now text.now) result (W.contents out.old) (W.contents out.new) }
 {
     match compile(alloc, text) {
-        Ok(compiled) => match lines_in_order(alloc, &compiled.code, threads, order, detail, err) {
+        Ok(compiled) => match lines_in_order(alloc, &compiled.code, threads, order, teller) {
             Ok(found) => match write_schedule(alloc, found.as_slice()) {
-                Ok(written) => print_text(written.as_str().as_bytes(), out, err),
-                Err(_) => out_of_memory(err),
+                Ok(written) => print_text(written.as_str().as_bytes(), out, teller.err),
+                Err(_) => out_of_memory(teller.err),
             },
             Err(status) => status,
         },
-        Err(fault) => refuse(alloc, text, fault, detail, err),
+        Err(fault) => teller.refuse(alloc, text, fault),
     }
 }
 
@@ -207,9 +185,8 @@ pub(crate) fn print_order<A: Allocator + Copy, W: Write, E: Write>(
 pub(crate) fn print_for_replay<A: Allocator, W: Write, E: Write>(
     text: &[u8],
     replayed: &Replayed<A>,
-    detail: Detail<'_>,
     out: &mut W,
-    err: &mut E,
+    teller: &mut Teller<'_, E>,
 ) -> u8
     ensures status { result ≤ 4 }
     ensures whole { (result ≡ 0) ⊎ (result ≡ 3) → replayed.now.stop ≡ None }
@@ -220,10 +197,10 @@ pub(crate) fn print_for_replay<A: Allocator, W: Write, E: Write>(
 {
     match print(text, out) {
         Ok(()) => match replayed.stop {
-            Some(why) => refuse_step(why, detail, err),
+            Some(why) => teller.refuse_step(why),
             None => status_of(&replayed.printed),
         },
-        Err(_) => cannot_write(err),
+        Err(_) => cannot_write(teller.err),
     }
 }
 
@@ -231,9 +208,8 @@ pub(crate) fn print_for_replay<A: Allocator, W: Write, E: Write>(
 fn print_replay<A: Allocator + Copy, W: Write, E: Write>(
     alloc: A,
     replayed: &Replayed<A>,
-    detail: Detail<'_>,
     out: &mut W,
-    err: &mut E,
+    teller: &mut Teller<'_, E>,
 ) -> u8
     ensures status { result ≤ 4 }
     ensures whole { (result ≡ 0) ⊎ (result ≡ 3) → replayed.now.stop ≡ None }
@@ -243,8 +219,8 @@ fn print_replay<A: Allocator + Copy, W: Write, E: Write>(
     ensures not_refused { result ≢ 1 }
 {
     match report_text(alloc, &replayed.printed) {
-        Ok(report) => print_for_replay(report.as_slice(), replayed, detail, out, err),
-        Err(_) => out_of_memory(err),
+        Ok(report) => print_for_replay(report.as_slice(), replayed, out, teller),
+        Err(_) => out_of_memory(teller.err),
     }
 }
 
@@ -277,9 +253,8 @@ fn print_timeline<A: Allocator + Copy, W: Write, E: Write>(
     code: &Code<A>,
     threads: u32,
     replayed: &Replayed<A>,
-    detail: Detail<'_>,
     out: &mut W,
-    err: &mut E,
+    teller: &mut Teller<'_, E>,
 ) -> u8
     ensures status { result ≤ 4 }
     ensures whole { (result ≡ 0) ⊎ (result ≡ 3) → replayed.now.stop ≡ None }
@@ -293,8 +268,8 @@ fn print_timeline<A: Allocator + Copy, W: Write, E: Write>(
     ensures not_refused { result ≢ 1 }
 {
     match timeline_and_report(alloc, code, threads, replayed) {
-        Some(text) => print_for_replay(text.as_slice(), replayed, detail, out, err),
-        None => out_of_memory(err),
+        Some(text) => print_for_replay(text.as_slice(), replayed, out, teller),
+        None => out_of_memory(teller.err),
     }
 }
 

@@ -15,7 +15,7 @@ use crate::print::print_text;
 use crate::replays::{print_order, print_schedule, replay_source, show_steps};
 use crate::run::run;
 use crate::source::in_order;
-use crate::tell::{Detail, refuse_run, unusable};
+use crate::tell::{Teller, unusable};
 use command::Task;
 use messages::{end_explanation, explanation};
 use std::alloc::{Allocator, Global};
@@ -39,29 +39,17 @@ pub(crate) fn serve_program<
 >(
     rt: &H,
     alloc: Global,
-    file: &str,
     task: &Task,
     source: R,
     schedule: S,
-    detail: Detail<'_>,
     out: &mut W,
-    err: &mut E,
+    teller: &mut Teller<'_, E>,
 ) -> u8
     ensures { ServesTask task.now (S.remaining schedule) (R.remaining source) result (W.contents out.old)
         (W.contents out.new) }
 {
-    match text_of(alloc, file, source, detail, err) {
-        Ok(text) => work(
-            rt,
-            alloc,
-            file,
-            task,
-            text.as_str(),
-            schedule,
-            detail,
-            out,
-            err,
-        ),
+    match text_of(alloc, source, teller) {
+        Ok(text) => work(rt, alloc, task, text.as_str(), schedule, out, teller),
         Err(status) => status,
     }
 }
@@ -70,13 +58,11 @@ pub(crate) fn serve_program<
 /// it, so that `run` is told as a run whose threads were not.
 pub fn serve_alone<A: Allocator + Copy, R: Read + Drop, S: Read + Drop, W: Write, E: Write>(
     alloc: A,
-    file: &str,
     task: &Task,
     source: R,
     schedule: S,
-    detail: Detail<'_>,
     out: &mut W,
-    err: &mut E,
+    teller: &mut Teller<'_, E>,
 ) -> u8
     ensures status { result ≤ 4 }
     ensures answer { IfSome (R.remaining source)
@@ -87,8 +73,8 @@ pub fn serve_alone<A: Allocator + Copy, R: Read + Drop, S: Read + Drop, W: Write
         (W.contents out.new)) }
     ensures untouched { result ≡ 1 → W.contents out.new ≡ W.contents out.old }
 {
-    match text_of(alloc, file, source, detail, err) {
-        Ok(text) => work_alone(alloc, file, task, text.as_str(), schedule, detail, out, err),
+    match text_of(alloc, source, teller) {
+        Ok(text) => work_alone(alloc, task, text.as_str(), schedule, out, teller),
         Err(status) => status,
     }
 }
@@ -97,13 +83,11 @@ pub fn serve_alone<A: Allocator + Copy, R: Read + Drop, S: Read + Drop, W: Write
 fn work<H: Threads + Wait + Sync, S: Read + Drop, W: Write, E: Write + Send>(
     rt: &H,
     alloc: Global,
-    file: &str,
     task: &Task,
     text: &str,
     schedule: S,
-    detail: Detail<'_>,
     out: &mut W,
-    err: &mut E,
+    teller: &mut Teller<'_, E>,
 ) -> u8
     ensures { ServesTask task.now (S.remaining schedule) (Some text.now) result (W.contents out.old)
         (W.contents out.new) }
@@ -122,52 +106,47 @@ fn work<H: Threads + Wait + Sync, S: Read + Drop, W: Write, E: Write + Send>(
             u64::from(*budget),
             *counts,
             bytes_of_memory(*memory),
-            detail,
             out,
-            err,
+            teller,
         ),
-        _ => work_alone(alloc, file, task, text, schedule, detail, out, err),
+        _ => work_alone(alloc, task, text, schedule, out, teller),
     }
 }
 
 /// Does what is asked with the text of the program in a file, and starts no threads.
 fn work_alone<A: Allocator + Copy, S: Read + Drop, W: Write, E: Write>(
     alloc: A,
-    file: &str,
     task: &Task,
     text: &str,
     schedule: S,
-    detail: Detail<'_>,
     out: &mut W,
-    err: &mut E,
+    teller: &mut Teller<'_, E>,
 ) -> u8
     ensures { ServesTask task.now (S.remaining schedule) (Some text.now) result (W.contents out.old)
         (W.contents out.new) }
 {
     match task {
-        Task::Check(told) => check(alloc, text, *told, detail, out, err),
-        Task::Listing => list(alloc, text, detail, out, err),
-        Task::Run { .. } => refuse_run(RunFault::NotStarted, detail, err),
+        Task::Check(told) => check(alloc, text, *told, out, teller),
+        Task::Listing => list(alloc, text, out, teller),
+        Task::Run { .. } => teller.refuse_run(RunFault::NotStarted),
         Task::Replay { threads, steps } => replay_source(
-            alloc, text, *threads, steps, schedule, detail, out, err,
+            alloc, text, *threads, steps, schedule, out, teller,
         ),
         Task::Timeline { threads, steps } => show_steps(
-            alloc, text, *threads, steps, schedule, detail, out, err,
+            alloc, text, *threads, steps, schedule, out, teller,
         ),
         Task::Picture {
             threads,
             from,
             steps,
-        } => draw(
-            alloc, file, text, *threads, *from, steps, schedule, detail, out, err,
-        ),
+        } => draw(alloc, text, *threads, *from, steps, schedule, out, teller),
         Task::PrintSchedule {
             threads,
             seed,
             count,
-        } => print_schedule(alloc, text, *threads, *seed, *count, detail, out, err),
+        } => print_schedule(alloc, text, *threads, *seed, *count, out, teller),
         Task::PrintOrder { threads, order } => {
-            print_order(alloc, text, *threads, order.as_slice(), detail, out, err)
+            print_order(alloc, text, *threads, order.as_slice(), out, teller)
         }
         Task::Source {
             threads,
@@ -179,9 +158,8 @@ fn work_alone<A: Allocator + Copy, S: Read + Drop, W: Write, E: Write>(
             *threads,
             order.as_slice(),
             u64::from(*ticks),
-            detail,
             out,
-            err,
+            teller,
         ),
         Task::Outcomes {
             threads,
@@ -195,9 +173,8 @@ fn work_alone<A: Allocator + Copy, S: Read + Drop, W: Write, E: Write>(
             u64::from(*steps),
             *limit,
             bytes_of_memory(*memory),
-            detail,
             out,
-            err,
+            teller,
         ),
     }
 }

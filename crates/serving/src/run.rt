@@ -27,7 +27,7 @@ use crate::laws::reports_are_orders;
 use crate::print::print_seen;
 use crate::program::{Compiled, SourceFault, compile, unit_of};
 use crate::run_line::RunWatch;
-use crate::tell::{Detail, out_of_memory, refuse, refuse_run, tell_counts};
+use crate::tell::{Teller, out_of_memory, tell_counts};
 use bytecode::Code;
 use containers::Items;
 use norec_core::Stop;
@@ -51,9 +51,8 @@ pub(crate) fn run<H: Threads + Wait + Sync, W: Write, E: Write + Send>(
     budget: u64,
     counts: bool,
     memory: u64,
-    detail: Detail<'_>,
     out: &mut W,
-    err: &mut E,
+    teller: &mut Teller<'_, E>,
 ) -> u8
     ensures { ServesText
         (PrintsReport (λ shown. RunsInSomeOrder threads text.now shown × Accepts text.now
@@ -61,13 +60,13 @@ pub(crate) fn run<H: Threads + Wait + Sync, W: Write, E: Write + Send>(
         (IsReportOf (RunsConcurrently threads budget text.now)) result (W.contents out.old) (W.contents out.new) }
 {
     reports_are_orders();
-    let watch = RunWatch::new(err, detail.progress, budget, memory, threads);
+    let watch = RunWatch::new(teller.err, teller.detail.progress, budget, memory, threads);
     let ran = run_threads(rt, alloc, text, threads, budget, &watch);
     watch.clear();
     match ran {
-        Ok(left) => print_left(alloc, text, threads, counts, &left, detail, out, err),
-        Err(ThreadsFault::Source(fault)) => refuse(alloc, text, fault, detail, err),
-        Err(ThreadsFault::Run(fault)) => refuse_run(fault, detail, err),
+        Ok(left) => print_left(alloc, text, threads, counts, &left, out, teller),
+        Err(ThreadsFault::Source(fault)) => teller.refuse(alloc, text, fault),
+        Err(ThreadsFault::Run(fault)) => teller.refuse_run(fault),
     }
 }
 
@@ -97,9 +96,8 @@ fn print_left<W: Write, E: Write>(
     threads: u32,
     counts: bool,
     left: &RunLeft,
-    detail: Detail<'_>,
     out: &mut W,
-    err: &mut E,
+    teller: &mut Teller<'_, E>,
 ) -> u8
     ensures status { result ≤ 4 }
     ensures report { PrintsShown (left_shown threads left.now) result (W.contents out.old) (W.contents out.new) }
@@ -111,19 +109,12 @@ fn print_left<W: Write, E: Write>(
         Ok(seen) => {
             let holder = holder_of(&left.ran.memory);
             let globals = left.globals.as_slice();
-            let status = print_seen(alloc, seen.as_slice(), globals, holder, out, err);
-            tell_ends(
-                alloc,
-                text,
-                seen.as_slice(),
-                left.stood.as_slice(),
-                detail,
-                err,
-            );
-            tell_counts(counts, threads, left.ran.threads.as_slice(), err);
+            let status = print_seen(alloc, seen.as_slice(), globals, holder, out, teller.err);
+            tell_ends(alloc, text, seen.as_slice(), left.stood.as_slice(), teller);
+            tell_counts(counts, threads, left.ran.threads.as_slice(), teller.err);
             status
         }
-        Err(_) => out_of_memory(err),
+        Err(_) => out_of_memory(teller.err),
     }
 }
 

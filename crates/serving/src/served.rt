@@ -8,7 +8,7 @@ use crate::ask::ask;
 use crate::certify::certify;
 use crate::compared::compare;
 use crate::request::{explain, explain_end, serve_program};
-use crate::tell::Detail;
+use crate::tell::{Detail, Teller};
 use command::Request;
 use std::alloc::Global;
 use std::io::{Read, Write};
@@ -64,17 +64,8 @@ pub fn serve<
             task,
         } => {
             let detail = Detail::of(file.as_str(), *verbose, *format, is_terminal);
-            serve_program(
-                rt,
-                alloc,
-                file.as_str(),
-                task,
-                source,
-                schedule,
-                detail,
-                out,
-                err,
-            )
+            let mut teller = Teller::new(err, detail);
+            serve_program(rt, alloc, task, source, schedule, out, &mut teller)
         }
         Request::Certify {
             file,
@@ -83,17 +74,8 @@ pub fn serve<
             claim,
         } => {
             let detail = Detail::of(file.as_str(), *verbose, *format, is_terminal);
-            certify(
-                alloc,
-                file.as_str(),
-                claim,
-                source,
-                schedule,
-                report,
-                detail,
-                out,
-                err,
-            )
+            let mut teller = Teller::new(err, detail);
+            certify(alloc, claim, source, schedule, report, out, &mut teller)
         }
         Request::Compare {
             file,
@@ -102,16 +84,8 @@ pub fn serve<
             comparison,
         } => {
             let detail = Detail::of(file.as_str(), *verbose, *format, is_terminal);
-            compare(
-                alloc,
-                file.as_str(),
-                comparison,
-                source,
-                report,
-                detail,
-                out,
-                err,
-            )
+            let mut teller = Teller::new(err, detail);
+            compare(alloc, comparison, source, report, out, &mut teller)
         }
         Request::Ask {
             file,
@@ -120,7 +94,8 @@ pub fn serve<
             questions,
         } => {
             let detail = Detail::of(file.as_str(), *verbose, *format, is_terminal);
-            ask(alloc, file.as_str(), questions, source, detail, out, err)
+            let mut teller = Teller::new(err, detail);
+            ask(alloc, questions, source, out, &mut teller)
         }
         Request::Explain { number } => explain(*number, out, err),
         Request::ExplainEnd { word, number } => explain_end(word.as_str(), *number, out, err),

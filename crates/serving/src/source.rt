@@ -18,7 +18,7 @@ use crate::ends::{Stood, all_stood_in_source, tell_ends};
 use crate::globals::globals_shown;
 use crate::print::print_report;
 use crate::program::{SourceFault, read_accepted, unit_of};
-use crate::tell::{Detail, refuse, refuse_order};
+use crate::tell::Teller;
 use containers::Items;
 use meaning::{MeaningFault, SourceOutcome, ThreadEnd, ThreadReport, run_order};
 use report::{End, Printed, ThreadShown};
@@ -35,9 +35,8 @@ pub(crate) fn in_order<A: Allocator + Copy, W: Write, E: Write>(
     threads: u32,
     order: &[u32],
     ticks: u64,
-    detail: Detail<'_>,
     out: &mut W,
-    err: &mut E,
+    teller: &mut Teller<'_, E>,
 ) -> u8
     ensures { ServesText
         (PrintsReport (λ shown. RunsInOrder threads ticks order.now text.now shown × Accepts text.now))
@@ -47,13 +46,13 @@ pub(crate) fn in_order<A: Allocator + Copy, W: Write, E: Write>(
 {
     match order_of_text(alloc, text, threads, order, ticks) {
         Ok((printed, stood)) => {
-            let status = print_report(alloc, &printed, out, err);
+            let status = print_report(alloc, &printed, out, teller.err);
             let found = printed.threads.as_slice();
-            tell_ends(alloc, text, found, stood.as_slice(), detail, err);
+            tell_ends(alloc, text, found, stood.as_slice(), teller);
             status
         }
-        Err(OrderFault::Source(fault)) => refuse(alloc, text, fault, detail, err),
-        Err(OrderFault::Order(fault)) => refuse_order(fault, detail, err),
+        Err(OrderFault::Source(fault)) => teller.refuse(alloc, text, fault),
+        Err(OrderFault::Order(fault)) => teller.refuse_order(fault),
     }
 }
 

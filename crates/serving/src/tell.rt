@@ -72,6 +72,195 @@ impl<'a> Detail<'a> {
     }
 }
 
+/// Tells what is wrong with a file's program, and how far work on it is, as its detail asks. What is told in one way alone
+/// takes the writer. What the writer does not take is lost.
+#[derive(Drop)]
+pub struct Teller<'a, E: Write> {
+    /// Where it is told.
+    pub(crate) err: &'a mut E,
+    /// How.
+    pub(crate) detail: Detail<'a>,
+}
+
+impl<'a, E: Write> Teller<'a, E> {
+    /// Tells it there, and so.
+    pub fn new(err: &'a mut E, detail: Detail<'a>) -> Teller<'a, E> {
+        Teller { err, detail }
+    }
+}
+
+impl<E: Write> Teller<'_, E> {
+    /// Says why a source is refused.
+    pub(crate) fn refuse<A: Allocator + Copy>(
+        &mut self,
+        alloc: A,
+        text: &str,
+        fault: SourceFault,
+    ) -> u8
+        ensures within { result ≤ 4 }
+        ensures not_ended { result ≢ 0 }
+        ensures not_unusable { result ≢ 2 }
+        ensures not_trapped { result ≢ 3 }
+        ensures refused { result ≡ 1 → is_some (span_of_source fault) ≡ true }
+    {
+        let number = fault.number();
+        match fault.span() {
+            Some(span) => {
+                self.tell_with_line(alloc, text, number, span);
+                REFUSED
+            }
+            None => out_of_memory(self.err),
+        }
+    }
+
+    /// Tells the fault of a number at a span of the source, and shows the line of it where that is wanted.
+    pub(crate) fn tell_with_line<A: Allocator + Copy>(
+        &mut self,
+        alloc: A,
+        text: &str,
+        number: u32,
+        span: Span,
+    ) {
+        self.tell_fault(alloc, text, number, span);
+        if self.detail.lines {
+            show_line(alloc, text, span, self.err);
+            show_hints(alloc, text, number, span, self.err);
+            show_where_more(number, self.err);
+        }
+    }
+
+    /// Tells the fault of a number at a span of the source. Where memory for another form is refused, that is the plain
+    /// one.
+    fn tell_fault<A: Allocator + Copy>(&mut self, alloc: A, text: &str, number: u32, span: Span) {
+        if let Some(line) = line_of(alloc, text, number, span, self.detail) {
+            let _ = self.err.write_all(line.as_slice());
+        } else {
+            let (line, column) = place(text, span.start.min(text.len()));
+            let _ = writeln!(
+                self.err,
+                "txc: fault {number:02} at {line}:{column}: {}",
+                words(number)
+            );
+        }
+    }
+
+    /// Says what a fault's number means, where that is wanted, and where more is said.
+    fn show_words(&mut self, number: u32) {
+        if self.detail.lines {
+            let _ = writeln!(self.err, "{}", words(number));
+            show_where_more(number, self.err);
+        }
+    }
+
+    /// Says that a file cannot be read, and why where that is wanted.
+    fn cannot_read(&mut self, file: &str, error: &io::Error) -> u8
+        ensures { result ≡ 2 }
+    {
+        let _ = self.err.write_all(b"txc: cannot read ");
+        let _ = write_shown(file, "", self.err);
+        let _ = if self.detail.reasons {
+            writeln!(self.err, " ({error})")
+        } else {
+            writeln!(self.err)
+        };
+        UNUSABLE
+    }
+
+    /// Says why a file was not opened or not read: memory was refused, or the file cannot be read.
+    pub fn not_read(&mut self, file: &str, error: &io::Error) -> u8
+        ensures status { (result ≡ 2) ⊎ (result ≡ 4) }
+        ensures memory { error_kind error.now ≡ ErrorKind.OutOfMemory → result ≡ 4 }
+        ensures others { error_kind error.now ≢ ErrorKind.OutOfMemory → result ≡ 2 }
+    {
+        match error.kind() {
+            ErrorKind::OutOfMemory => out_of_memory(self.err),
+            _ => self.cannot_read(file, error),
+        }
+    }
+
+    /// Says that a source has too many bytes.
+    pub(crate) fn too_long<A: Allocator + Copy>(&mut self, alloc: A) -> u8
+        ensures { result ≡ 1 }
+    {
+        self.tell_fault(alloc, "", 5, Span { start: 0, end: 0 });
+        REFUSED
+    }
+
+    /// Says why threads were not run.
+    pub fn refuse_run(&mut self, fault: RunFault) -> u8
+        ensures { result ≡ 4 }
+    {
+        match fault {
+            RunFault::OutOfMemory => out_of_memory(self.err),
+            RunFault::Threads | RunFault::NotStarted => self.tell_number(fault.number(), STOPPED),
+        }
+    }
+
+    /// Says that a step was not made, where that is of a thread that there is not. A report tells the other reasons.
+    pub(crate) fn refuse_step(&mut self, stop: WorldStop) -> u8
+        ensures { result ≡ 4 }
+    {
+        if stop.reason == StopReason::Stranger {
+            let _ = writeln!(
+                self.err,
+                "txc: fault {} at step {}",
+                stop.number(),
+                stop.step
+            );
+            self.show_words(stop.number());
+        }
+        STOPPED
+    }
+
+    /// Says why a schedule is refused.
+    pub(crate) fn refuse_schedule<A: Allocator + Copy>(
+        &mut self,
+        alloc: A,
+        text: &str,
+        fault: ScheduleFault,
+    ) -> u8
+        ensures { (result ≡ 2) ⊎ (result ≡ 4) }
+    {
+        match fault {
+            ScheduleFault::OutOfMemory => return out_of_memory(self.err),
+            ScheduleFault::BadLine(line) => {
+                let _ = writeln!(self.err, "txc: fault {} at line {line}", fault.number());
+                if self.detail.lines {
+                    show_line(alloc, text, span_of_line(text.as_bytes(), line), self.err);
+                }
+            }
+            ScheduleFault::TooLong => {
+                let _ = writeln!(self.err, "txc: fault {}", fault.number());
+            }
+        }
+        self.show_words(fault.number());
+        UNUSABLE
+    }
+
+    /// Says why an order is refused.
+    pub(crate) fn refuse_order(&mut self, fault: MeaningFault) -> u8
+        ensures status { (result ≡ 2) ⊎ (result ≡ 4) }
+        ensures memory { fault ≡ MeaningFault.OutOfMemory → result ≡ 4 }
+        ensures stranger { fault ≡ MeaningFault.Stranger → result ≡ 2 }
+        ensures threads { fault ≡ MeaningFault.WrongThreads → result ≡ 4 }
+    {
+        match fault {
+            MeaningFault::OutOfMemory => out_of_memory(self.err),
+            MeaningFault::Stranger => self.tell_number(fault.number(), UNUSABLE),
+            MeaningFault::WrongThreads => self.tell_number(fault.number(), STOPPED),
+        }
+    }
+
+    /// Says the number of a fault that stands nowhere, and gives this exit status.
+    fn tell_number(&mut self, number: u32, status: u8) -> u8
+        ensures { result ≡ status }
+    {
+        let _ = writeln!(self.err, "txc: fault {number}");
+        self.show_words(number);
+        status
+    }
+}
+
 /// Tells help, or why words are not a request. Gives the exit status.
 pub fn tell_usage<W: Write, E: Write>(fault: &UsageFault, out: &mut W, err: &mut E) -> u8
     ensures status { result ≤ 4 }
@@ -90,68 +279,6 @@ pub fn tell_usage<W: Write, E: Write>(fault: &UsageFault, out: &mut W, err: &mut
             let _ = write_shown(text.as_str(), "\n\t", err);
             UNUSABLE
         }
-    }
-}
-
-/// Says why a source is refused.
-pub(crate) fn refuse<A: Allocator + Copy, E: Write>(
-    alloc: A,
-    text: &str,
-    fault: SourceFault,
-    detail: Detail<'_>,
-    err: &mut E,
-) -> u8
-    ensures within { result ≤ 4 }
-    ensures not_ended { result ≢ 0 }
-    ensures not_unusable { result ≢ 2 }
-    ensures not_trapped { result ≢ 3 }
-    ensures refused { result ≡ 1 → is_some (span_of_source fault) ≡ true }
-{
-    let number = fault.number();
-    match fault.span() {
-        Some(span) => {
-            tell_with_line(alloc, text, number, span, detail, err);
-            REFUSED
-        }
-        None => out_of_memory(err),
-    }
-}
-
-/// Tells the fault of a number at a span of the source, and shows the line of it where that is wanted.
-pub(crate) fn tell_with_line<A: Allocator + Copy, E: Write>(
-    alloc: A,
-    text: &str,
-    number: u32,
-    span: Span,
-    detail: Detail<'_>,
-    err: &mut E,
-) {
-    tell_fault(alloc, text, number, span, detail, err);
-    if detail.lines {
-        show_line(alloc, text, span, err);
-        show_hints(alloc, text, number, span, err);
-        show_where_more(number, err);
-    }
-}
-
-/// Tells the fault of a number at a span of the source. Where memory for another form is refused, that is the plain one.
-fn tell_fault<A: Allocator + Copy, E: Write>(
-    alloc: A,
-    text: &str,
-    number: u32,
-    span: Span,
-    detail: Detail<'_>,
-    err: &mut E,
-) {
-    if let Some(line) = line_of(alloc, text, number, span, detail) {
-        let _ = err.write_all(line.as_slice());
-    } else {
-        let (line, column) = place(text, span.start.min(text.len()));
-        let _ = writeln!(
-            err,
-            "txc: fault {number:02} at {line}:{column}: {}",
-            words(number)
-        );
     }
 }
 
@@ -207,14 +334,6 @@ fn show_where_more<E: Write>(number: u32, err: &mut E) {
     let _ = writeln!(err, "txc explain {number:02} says more");
 }
 
-/// Says what a fault's number means, where that is wanted, and where more is said.
-fn show_words<E: Write>(number: u32, detail: Detail<'_>, err: &mut E) {
-    if detail.lines {
-        let _ = writeln!(err, "{}", words(number));
-        show_where_more(number, err);
-    }
-}
-
 /// Says that memory was refused.
 pub(crate) fn out_of_memory<E: Write>(err: &mut E) -> u8
     ensures { result ≡ 4 }
@@ -229,32 +348,6 @@ pub(crate) fn cannot_write<E: Write>(err: &mut E) -> u8
 {
     let _ = writeln!(err, "txc: cannot write");
     STOPPED
-}
-
-/// Says that a file cannot be read, and why where that is wanted.
-fn cannot_read<E: Write>(file: &str, error: &io::Error, detail: Detail<'_>, err: &mut E) -> u8
-    ensures { result ≡ 2 }
-{
-    let _ = err.write_all(b"txc: cannot read ");
-    let _ = write_shown(file, "", err);
-    let _ = if detail.reasons {
-        writeln!(err, " ({error})")
-    } else {
-        writeln!(err)
-    };
-    UNUSABLE
-}
-
-/// Says why a file was not opened or not read: memory was refused, or the file cannot be read.
-pub fn not_read<E: Write>(file: &str, error: &io::Error, detail: Detail<'_>, err: &mut E) -> u8
-    ensures status { (result ≡ 2) ⊎ (result ≡ 4) }
-    ensures memory { error_kind error.now ≡ ErrorKind.OutOfMemory → result ≡ 4 }
-    ensures others { error_kind error.now ≢ ErrorKind.OutOfMemory → result ≡ 2 }
-{
-    match error.kind() {
-        ErrorKind::OutOfMemory => out_of_memory(err),
-        _ => cannot_read(file, error, detail, err),
-    }
 }
 
 /// Says why the words of the command line were not had: memory was refused, or one of them is not UTF-8.
@@ -279,18 +372,6 @@ pub(crate) fn not_text<E: Write>(file: &str, err: &mut E) -> u8
     let _ = write_shown(file, "", err);
     let _ = writeln!(err, " is not UTF-8");
     UNUSABLE
-}
-
-/// Says that a source has too many bytes.
-pub(crate) fn too_long<A: Allocator + Copy, E: Write>(
-    alloc: A,
-    detail: Detail<'_>,
-    err: &mut E,
-) -> u8
-    ensures { result ≡ 1 }
-{
-    tell_fault(alloc, "", 5, Span { start: 0, end: 0 }, detail, err);
-    REFUSED
 }
 
 /// Tells what was counted of each of so many threads, where that is wanted.
@@ -320,18 +401,6 @@ pub(crate) fn tell_counts<E: Write>(
     }
 }
 
-/// Says why threads were not run.
-pub fn refuse_run<E: Write>(fault: RunFault, detail: Detail<'_>, err: &mut E) -> u8
-    ensures { result ≡ 4 }
-{
-    match fault {
-        RunFault::OutOfMemory => out_of_memory(err),
-        RunFault::Threads | RunFault::NotStarted => {
-            tell_number(fault.number(), STOPPED, detail, err)
-        }
-    }
-}
-
 /// Says why nothing was replayed.
 pub(crate) fn refuse_replay<E: Write>(fault: WorldFault, err: &mut E) -> u8
     ensures { result ≡ 4 }
@@ -343,43 +412,6 @@ pub(crate) fn refuse_replay<E: Write>(fault: WorldFault, err: &mut E) -> u8
             STOPPED
         }
     }
-}
-
-/// Says that a step was not made, where that is of a thread that there is not. A report tells the other reasons.
-pub(crate) fn refuse_step<E: Write>(stop: WorldStop, detail: Detail<'_>, err: &mut E) -> u8
-    ensures { result ≡ 4 }
-{
-    if stop.reason == StopReason::Stranger {
-        let _ = writeln!(err, "txc: fault {} at step {}", stop.number(), stop.step);
-        show_words(stop.number(), detail, err);
-    }
-    STOPPED
-}
-
-/// Says why a schedule is refused.
-pub(crate) fn refuse_schedule<A: Allocator + Copy, E: Write>(
-    alloc: A,
-    text: &str,
-    fault: ScheduleFault,
-    detail: Detail<'_>,
-    err: &mut E,
-) -> u8
-    ensures { (result ≡ 2) ⊎ (result ≡ 4) }
-{
-    match fault {
-        ScheduleFault::OutOfMemory => return out_of_memory(err),
-        ScheduleFault::BadLine(line) => {
-            let _ = writeln!(err, "txc: fault {} at line {line}", fault.number());
-            if detail.lines {
-                show_line(alloc, text, span_of_line(text.as_bytes(), line), err);
-            }
-        }
-        ScheduleFault::TooLong => {
-            let _ = writeln!(err, "txc: fault {}", fault.number());
-        }
-    }
-    show_words(fault.number(), detail, err);
-    UNUSABLE
 }
 
 /// Where the line of this number stands in a text, or its last line.
@@ -399,29 +431,6 @@ fn span_of_line(text: &[u8], line: usize) -> Span {
         start,
         end: text.len(),
     }
-}
-
-/// Says why an order is refused.
-pub(crate) fn refuse_order<E: Write>(fault: MeaningFault, detail: Detail<'_>, err: &mut E) -> u8
-    ensures status { (result ≡ 2) ⊎ (result ≡ 4) }
-    ensures memory { fault ≡ MeaningFault.OutOfMemory → result ≡ 4 }
-    ensures stranger { fault ≡ MeaningFault.Stranger → result ≡ 2 }
-    ensures threads { fault ≡ MeaningFault.WrongThreads → result ≡ 4 }
-{
-    match fault {
-        MeaningFault::OutOfMemory => out_of_memory(err),
-        MeaningFault::Stranger => tell_number(fault.number(), UNUSABLE, detail, err),
-        MeaningFault::WrongThreads => tell_number(fault.number(), STOPPED, detail, err),
-    }
-}
-
-/// Says the number of a fault that stands nowhere, and gives this exit status.
-fn tell_number<E: Write>(number: u32, status: u8, detail: Detail<'_>, err: &mut E) -> u8
-    ensures { result ≡ status }
-{
-    let _ = writeln!(err, "txc: fault {number}");
-    show_words(number, detail, err);
-    status
 }
 
 /// Says that words are of no use.

@@ -1,7 +1,8 @@
 //! The outcomes of sources over all orders of their threads, and that what is listed is what orders and runs show.
 
+use command::Format;
 use report::{Printed, WalkEnd, report_text};
-use serving::{OutcomesFound, list_outcomes, run_in_order};
+use serving::{Detail, OutcomesFound, Teller, list_outcomes, run_in_order};
 use std::alloc::Global;
 use std::sync::Wait;
 use std::thread::Threads;
@@ -330,17 +331,9 @@ fn report_in(alloc: Global, source: &str, threads: u32, order: &[u32]) -> Option
 /// The outcomes of a source.
 fn found_of(alloc: Global, source: &str, threads: u32) -> Option<OutcomesFound> {
     let mut err = Vec::new(alloc);
-    list_outcomes(
-        alloc,
-        source,
-        threads,
-        100000,
-        10000,
-        u64::MAX,
-        false,
-        &mut err,
-    )
-    .ok()
+    let detail = Detail::of("a.c", false, Format::Plain, false);
+    let mut teller = Teller::new(&mut err, detail);
+    list_outcomes(alloc, source, threads, 100000, 10000, u64::MAX, &mut teller).ok()
 }
 
 /// Whether there are so many outcomes, and each is what the report of its order shows.

@@ -2,7 +2,7 @@
 //! number. `scripts/faults.py` compares these tables with the document's.
 
 use command::Format;
-use serving::{Detail, refuse_run};
+use serving::{Detail, Teller};
 use std::alloc::{AllocError, Global};
 use std::sync::Wait;
 use std::thread::Threads;
@@ -419,7 +419,9 @@ fn a_long_file_that_is_not_utf8_is_told(rt: HostRuntime) {
 fn is_told_of_run(alloc: Global, fault: RunFault, is_terminal: bool, told: &[u8]) -> bool {
     let mut err = Vec::new(alloc);
     let detail = Detail::of("a.c", false, Format::Plain, is_terminal);
-    refuse_run(fault, detail, &mut err) == 4 && err.as_slice() == told
+    let mut teller = Teller::new(&mut err, detail);
+    let status = teller.refuse_run(fault);
+    status == 4 && err.as_slice() == told
 }
 
 /// Why a run is refused that no command line asks for, or that the system gives no thread or no memory.

@@ -1,7 +1,8 @@
 //! Tests of the seconds behind a line that tells how far a walk is.
 
 use crate::all_orders::MANY;
-use serving::{Timed, list_outcomes};
+use command::Format;
+use serving::{Detail, Teller, Timed, list_outcomes};
 use std::alloc::Global;
 use std::cell::Cell;
 use std::io;
@@ -45,7 +46,9 @@ impl Clock for Broken {
 fn is_told<C: Clock>(alloc: Global, clock: &C, line: &[u8]) -> bool {
     let mut told = Vec::new(alloc);
     let mut timed = Timed::new(&mut told, clock);
-    let found = list_outcomes(alloc, MANY, 2, 100000, 10000, u64::MAX, true, &mut timed);
+    let detail = Detail::of("a.c", false, Format::Plain, true);
+    let mut teller = Teller::new(&mut timed, detail);
+    let found = list_outcomes(alloc, MANY, 2, 100000, 10000, u64::MAX, &mut teller);
     found.is_ok()
         && match told.as_slice().strip_prefix(line) {
             Some(rest) => rest == line_cleared(),
