@@ -57,8 +57,8 @@ pub fn span_of_head<A: Allocator>(head: &ForHead<A>) -> Option<Span> {
     }
 }
 
-/// Where what a statement is known by stands: its keyword, or where the tree does not keep that its condition or what it
-/// does. A block and an empty statement have nothing of their own.
+/// Where what a statement is known by stands: its keyword, or where the tree does not keep that its condition or what
+/// it does. A block and an empty statement have nothing of their own.
 pub fn span_of_stmt<A: Allocator>(s: &Stmt<A>) -> Option<Span> {
     match s {
         Stmt::Empty | Stmt::Block(_) => None,
