@@ -114,7 +114,7 @@ fn parts(alloc: Memory, instructions: &[Instr]) -> Result<Parts, AllocError> {
     })?;
     let mut globals = Items::new(alloc);
     globals.push(Global {
-        of: Scalar::Int,
+        ty: Scalar::Int,
         name: Name { text: Text::from_str(alloc, "x")?, span: nowhere },
         length: None,
         first: Items::new(alloc),
