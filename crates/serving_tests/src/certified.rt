@@ -246,7 +246,7 @@ fn rows() -> &'static [Row] {
         (
             "txc certify a.c --threads 2 --order-file s --report r --verbose",
             Ok(ADDS),
-            Ok(b"T0 T1"),
+            Ok(b"t0 t1"),
             ADDED,
             (
                 2,
