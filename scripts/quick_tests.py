@@ -29,12 +29,22 @@ from quick_build import copy_sources, kit, make_links
 RESULT = re.compile(r"^test result: (ok\. )?.*$", re.M)
 # On the clock, for the tests of one crate once they are compiled: other work may be going on.
 SECONDS = "3600"
+# These take by far the longest, and begin first; of the others those with the longest sources.
+LONGEST = ("serving_replays_tests", "lower_tests", "serving_tests")
+# Bytes of stack of a program's main thread: with checks in the code, frames that fit into the usual 8 MiB do not.
+STACK = 64 << 20
 
 
 def size_of(crate):
     """How many bytes the sources of a crate have."""
     walked = os.walk(f"{TOP}/crates/{crate}/src")
     return sum(os.path.getsize(f"{at}/{name}") for at, _, names in walked for name in names)
+
+
+def enlarge_stack():
+    """Gives what is run from here on more stack, as far as the system lets it."""
+    most = resource.getrlimit(resource.RLIMIT_STACK)[1]
+    resource.setrlimit(resource.RLIMIT_STACK, (STACK if most == resource.RLIM_INFINITY else min(STACK, most), most))
 
 
 def tried(crate, work):
@@ -53,10 +63,11 @@ def main():
     words.add_argument("--jobs", type=int, default=min(4, os.cpu_count() or 1))
     words.add_argument("crates", nargs="*", metavar="CRATE")
     given = words.parse_args()
-    # (those with the longest sources first, as they take longest)
-    known = sorted((it for it in libraries() if has_tests(f"{TOP}/crates/{it}")), key=size_of, reverse=True)
+    known = [it for it in libraries() if has_tests(f"{TOP}/crates/{it}")]
+    known.sort(key=lambda it: (it in LONGEST, size_of(it)), reverse=True)
     if unknown := [it for it in given.crates if it not in known]:
         sys.exit(f"no crate with tests: {', '.join(unknown)}; these are: {', '.join(known)}")
+    enlarge_stack()
     failed, begun = [], time.monotonic()
     with tempfile.TemporaryDirectory(prefix="txc-quick-tests-") as work, ThreadPoolExecutor(given.jobs) as pool:
         copy_sources(f"{work}/sources")
