@@ -7,18 +7,21 @@
                                      those of must-fail/ are read too, as the gate would find it out only at its end
 
 An edit has the form of those of a crate's must-fail/, which the gate tries. Here it is made in a copy of the crate's
-files, over the libraries that lie in the out/ folders of the crates below; `rt lib` builds those that do not. Where
-a crate has one or two to try, each is tried by a check of the functions alone that it changes (`rattle check --only`),
-and of the whole crate where these are still proved. A crate that has more is proved once as it is, over what its own
-out/incremental has, and each is tried over that.
+files, over the libraries that lie in the out/ folders of the crates below; `rt lib` builds those that do not. Edits of
+different functions are made in one copy, and these functions are checked with what they call (`rattle check --only`),
+over what the crate's own out/incremental and such checks before have: each is proved or refused by itself, since of the
+others it knows their contracts. What is not refused so is tried by itself, by a check of its functions, and of the
+whole crate where these are still proved.
 
 All of it runs at the lowest priority. A verdict is printed as it comes, with its seconds of processor, and kept in
 out/wrong_bodies.json under a sum of the toolchain, of the crate's files, of those below it and of the edit: what was
-tried with the same is not tried again, without that file all is. At the end all are told by name. Ends in status 1
-where one is not refused; one that is refused for a name alone, since a proof file cites what it takes away, shows
-nothing of its promise, and one at a limit of the prover little.
+tried with the same is not tried again, without that file all is. Several runs of different crates may go on side by
+side, and one more tells of all that they tried. At the end all are told by name. Ends in status 1 where one is not
+refused; one that is refused for a name alone, since a proof file cites what it takes away, shows nothing of its
+promise, and one at a limit of the prover little.
 """
 
+import fcntl
 import glob
 import hashlib
 import json
@@ -39,11 +42,12 @@ PARTS = ("src", "specs", "proofs")
 REFUSED, BY_NAME, AT_LIMIT = "refused", "refused for a name alone", "refused at a limit of the prover"
 PASSES = "still proved"
 UNREAD, UNCOMPILED, UNKNOWN = "cannot be applied", "does not compile", "not tried"
-SHORT = 2
-IMPL = re.compile(r"(?:unsafe )?impl(?:<[^{]*?>)?\s+(?:(\w+)(?:<.*?>)?\s+for\s+)?&?(?:mut )?(\w+)")
+IMPL = re.compile(r"(?:unsafe )?impl(?:<[^{]*?>)?\s+(?:(\w+)(?:<.*?>)?\s+for\s+)?&?(?:mut )?(\w+)(<[^{]*<)?")
 # A line of the prover, by the file that it speaks of; `at` names the declaration that it refuses, if it could read it.
 SAID = re.compile(r"(?:note: )?(?:\./)?(?P<file>\S+?):\d+:\d+: (?P<error>error: )?(?P<at>`[^`]*`: )?(?P<why>.*)")
 NAMES_ALONE = re.compile(r"has no field|is not in scope|has no `|was not admitted|which was rejected")
+# What it comes to of one function of those that `--only` names.
+CHECKED = re.compile(r"fn \w+::(?P<name>\S+): (?P<how>.*)")
 LIMIT = re.compile(r"antt ran out of (stack|the (steps|memory) that the check of one declaration may)|step limit \(")
 NO_TEXT = re.compile(r"is not in scope|has no field|is no name|operand is missing|expected the end|cannot continue")
 
@@ -72,9 +76,10 @@ def name_of(edit):
     return os.path.relpath(edit, EDITS).removesuffix(".edit")
 
 
-def edited(crate, edit):
-    """The texts of the files that an edit changes, by their paths in the crate, and the functions in which it does."""
-    texts, functions, path, old = {}, [], None, None
+def edited(crate, edit, made=()):
+    """The texts of the files that an edit changes, by their paths in the crate, and the functions in which it does.
+    The texts that others made stand in the place of the crate's own, and are in what it gives."""
+    texts, functions, path, old = dict(made), [], None, None
     for line in read(edit).splitlines():
         word, _, rest = line.partition(":")
         rest = rest.removeprefix(" ")
@@ -90,22 +95,25 @@ def edited(crate, edit):
                 raise NotApplied(f"its old text stands {text.count(old)} times in crates/{crate}/{path}")
             functions.append(function_at(path, text, text.index(old)))
             texts[path] = text.replace(old, rest)
-    if not texts:
+    if not functions:
         raise NotApplied("it changes nothing")
-    return texts, functions
+    # (an import that is changed beside a function is tried with that)
+    return texts, [it for it in functions if it] or [None]
 
 
 def function_at(path, text, at):
     """The function in which a place of a file stands, as `rattle check --only` wants it, if it stands in one."""
     module = [it for it in path.removesuffix(".rt").split("/")[1:] if it not in ("lib", "main", "mod")]
-    of, function = [], None
+    where, function = module, None
     for line in text[: text.find("\n", at)].split("\n"):
         if line.startswith("}"):
-            of, function = [], None
+            where, function = module, None
         elif impl := IMPL.match(line):
-            of = [impl[2] + (impl[1] or "")]
+            # The toolchain has a method by its type and this one's module, and by the types in it where there are some:
+            # the end of the name will do.
+            where = [] if impl[3] else [impl[2] + (impl[1] or "")]
         elif found := re.match(r"[^/]*\bfn (\w+)", line):
-            function = "::".join([*module, *of, found[1]])
+            function = "::".join([*where, found[1]])
     return function
 
 
@@ -185,15 +193,99 @@ def verdict(status, lines, texts):
     return UNKNOWN, f"its check ended in status {status}: {lines[-1]}"
 
 
-def tried_alone(crate, texts, functions, named):
+def parts_of(crate, can):
+    """Parts edits among checks: those of one change different functions, and can be made in one text."""
+    parts = []
+    for edit, (_, functions) in can.items():
+        if None in functions:
+            continue
+        for part in parts:
+            known = {it for other in part for it in can[other][1]}
+            if known.isdisjoint(functions) and all_edited(crate, [*part, edit]) is not None:
+                part.append(edit)
+                break
+        else:
+            parts.append([edit])
+    return parts
+
+
+def all_edited(crate, edits):
+    """The texts that edits make together, or None where one changes what another has changed."""
+    texts = {}
+    for edit in edits:
+        try:
+            texts, functions = edited(crate, edit, texts)
+        except NotApplied:
+            return None
+        if functions != edited(crate, edit)[1]:
+            return None
+    return texts
+
+
+def tried_together(crate, part, can, named, kept):
+    """Tries edits of different functions by checks of these alone and what they call, over what such checks have kept;
+    gives of each that is refused by itself the reason, and the seconds."""
+    texts, functions = all_edited(crate, part), [name for edit in part for name in dict.fromkeys(can[edit][1])]
+    only = [it for name in functions for it in ("--only", name)]
+    _, lines, seconds = check(crate, texts, named, *only, "--incremental", kept)
+    refused, told = {}, refusals(lines, texts)
+    for edit in part:
+        whys = [why for name in can[edit][1] for of, why in told.items() if why and f"::{of}".endswith(f"::{name}")]
+        refused.update({edit: whys[0]} if whys else {})
+    if told or len(part) == 1:
+        return refused, seconds
+    # Nothing is told where one does not compile, a function is not known, or the whole is more than the prover takes.
+    print(f"{crate}, {len(part)} at once: none is tried: {first_error(lines)[:200]}", flush=True)
+    wrong = untried(lines, texts)
+    others = [edit for edit in part if wrong.isdisjoint(can[edit][1])]
+    half = len(part) // 2
+    for some in (part[:half], part[half:]) if len(others) in (0, len(part)) else (others,):
+        more, taken = tried_together(crate, some, can, named, kept)
+        refused.update(more)
+        seconds += taken
+    return refused, seconds
+
+
+def first_error(lines):
+    return next((it for it in lines if re.search(r"\berror[:[]", it)), lines[-1])
+
+
+def untried(lines, texts):
+    """The functions in which the compiler found an error, and those that the prover doesn't know by their names."""
+    unknown = {it for line in lines for it in re.findall("has no function `([^`]*)`", line)}
+    found = [it for it in map(re.compile(r"(?:\./)?(src/\S+\.rt):(\d+):\d+: error\[").match, lines) if it]
+    ends = {it: len("\n".join(texts[it[1]].split("\n")[: int(it[2]) - 1])) for it in found if it[1] in texts}
+    return unknown | {function_at(it[1], texts[it[1]], at + 1) for it, at in ends.items()}
+
+
+def refusals(lines, texts):
+    """Of each function that a check tells of, why it is refused, or nothing: its answers are in its folder of proofs/,
+    and what else is said of it stands right above its line. One that waits for another's proof is not refused."""
+    told, above = {}, []
+    for line in lines:
+        of = CHECKED.match(line)
+        if not of:
+            above.append(line)
+            continue
+        folder = f"proofs/{of['name'].replace('::', '/')}/"
+        own = [it for it in lines if it.removeprefix("./").startswith(folder)]
+        own += [it for it in above if it.startswith("note: src/")]
+        what, why = verdict(1, [*own, "logic=not-proved"], texts)
+        is_refused = of["how"].startswith(("not proved", "no proof")) and what == REFUSED
+        told[of["name"]], above = why if is_refused else "", []
+    return told
+
+
+def tried_alone(crate, texts, functions, named, kept):
     """Tries an edit by the functions that it changes, and by the whole crate where that tells nothing."""
     seconds = 0.0
     if None not in functions:
-        status, lines, seconds = check(crate, texts, named, *[it for name in functions for it in ("--only", name)])
+        only = [it for name in functions for it in ("--only", name)]
+        status, lines, seconds = check(crate, texts, named, *only, "--incremental", kept)
         came = verdict(status, lines, texts)
         if came[0] not in (PASSES, UNKNOWN):
             return *came, seconds
-    status, lines, more = check(crate, texts, named)
+    status, lines, more = check(crate, texts, named, "--incremental", kept)
     return *verdict(status, lines, texts), seconds + more
 
 
@@ -217,23 +309,22 @@ def tried(crate, edits, named, room):
             can[edit] = edited(crate, edit)
         except NotApplied as why:
             yield edit, UNREAD, str(why), 0.0
-    if 0 < len(can) <= SHORT:
-        for edit, (texts, functions) in can.items():
-            yield edit, *tried_alone(crate, texts, functions, named)
-    elif can:
-        kept, base = f"{TOP}/crates/{crate}/out/incremental", f"{room}/{crate}"
-        linked(kept, base) if os.path.isdir(kept) else os.mkdir(base)
-        status, lines, seconds = check(crate, {}, named, "--incremental", base)
-        print(f"{crate}, as it is: {'proved' if status == 0 else 'NOT PROVED'}, {seconds:.0f} s", flush=True)
-        for edit, (texts, _) in can.items():
-            if status:
-                yield edit, UNKNOWN, f"the crate is not proved as it is: {lines[-1]}", 0.0
-                continue
-            linked(base, f"{room}/edited")
-            status_of, lines, seconds = check(crate, texts, named, "--incremental", f"{room}/edited")
-            shutil.rmtree(f"{room}/edited")
-            yield edit, *verdict(status_of, lines, texts), seconds
-        shutil.rmtree(base)
+    own, base = f"{TOP}/crates/{crate}/out/incremental", f"{room}/{crate}"
+    linked(own, base) if os.path.isdir(own) else os.mkdir(base)
+    is_over = False
+    while not is_over:
+        # (what waits for the proof of another one's function does not wait in the next round)
+        is_over = True
+        for part in parts_of(crate, can):
+            refused, seconds = tried_together(crate, part, can, named, base)
+            print(f"{crate}, {len(part)} at once: {len(refused)} refused, {seconds:.0f} s", flush=True)
+            for edit, why in refused.items():
+                yield edit, REFUSED, why, seconds / len(part)
+                del can[edit]
+            is_over = is_over and (not refused or len(refused) == len(part))
+    for edit, (texts, functions) in can.items():
+        yield edit, *tried_alone(crate, texts, functions, named, base)
+    shutil.rmtree(base)
 
 
 def build_below(crate, named, built):
@@ -250,11 +341,18 @@ def build_below(crate, named, built):
     return True
 
 
-def keep(kept):
+def all_kept():
+    return json.loads(read(KEPT)) if os.path.isfile(KEPT) else {}
+
+
+def keep(key, came):
+    """Keeps what a try came to; other runs, of other crates, may do so at the same time."""
     os.makedirs(os.path.dirname(KEPT), exist_ok=True)
-    with open(f"{KEPT}.new", "w", encoding="utf-8") as file:
-        json.dump(kept, file, indent=0)
-    os.replace(f"{KEPT}.new", KEPT)
+    with open(f"{KEPT}.lock", "w", encoding="utf-8") as lock:
+        fcntl.flock(lock, fcntl.LOCK_EX)
+        with open(f"{KEPT}.new", "w", encoding="utf-8") as file:
+            json.dump({**all_kept(), key: came}, file, indent=0)
+        os.replace(f"{KEPT}.new", KEPT)
 
 
 def tell(edit, what, why, when):
@@ -266,7 +364,7 @@ def try_all(crates):
     os.nice(19)
     signal.signal(signal.SIGTERM, lambda *_: sys.exit("ended by a signal; what was tried is kept"))
     named, built, came = libraries(), set(), {}
-    kept = json.loads(read(KEPT)) if os.path.isfile(KEPT) else {}
+    kept = all_kept()
     of_crate = sums(crates, named)
     for crate in crates:
         keys = {it: hashlib.sha256(f"{of_crate[crate]} {it} {read(it)}".encode()).hexdigest() for it in edits_of(crate)}
@@ -284,8 +382,7 @@ def try_all(crates):
                 came[edit] = what
                 tell(edit, what, why, f"{seconds:.0f} s")
                 if what != UNKNOWN:
-                    kept[keys[edit]] = [what, why]
-                    keep(kept)
+                    keep(keys[edit], [what, why])
     return told(came)
 
 
