@@ -7,11 +7,11 @@
                                      those of must-fail/ are read too, as the gate would find it out only at its end
 
 An edit has the form of those of a crate's must-fail/, which the gate tries. Here it is made in a copy of the crate's
-files, over the libraries that lie in the out/ folders of the crates below; `rt lib` builds those that do not. Edits of
-different functions are made in one copy, and these functions are checked with what they call (`rattle check --only`),
-over what the crate's own out/incremental and such checks before have: each is proved or refused by itself, since of the
-others it knows their contracts. What is not refused so is tried by itself, by a check of its functions, and of the
-whole crate where these are still proved.
+files, over the libraries that lie in the out/ folders of the crates below; `rt lib` builds those that do not. Edits
+of different functions are made in one copy, and these functions are checked with what they call (`rattle check
+--only`), over what the crate's own out/incremental and such checks before have, first as they are: each is proved or
+refused by itself, since of the others it knows their contracts. What is not refused so is tried by itself, by a check
+of its functions, and of the whole crate where these are still proved.
 
 All of it runs at the lowest priority. A verdict is printed as it comes, with its seconds of processor, and kept in
 out/wrong_bodies.json under a sum of the toolchain, of the crate's files, of those below it and of the edit: what was
@@ -311,6 +311,12 @@ def tried(crate, edits, named, room):
             yield edit, UNREAD, str(why), 0.0
     own, base = f"{TOP}/crates/{crate}/out/incremental", f"{room}/{crate}"
     linked(own, base) if os.path.isdir(own) else os.mkdir(base)
+    only = [it for name in {name for _, of in can.values() for name in of if name} for it in ("--only", name)]
+    status, lines, seconds = check(crate, {}, named, *only, "--incremental", base)
+    print(f"{crate}, as it is: {'NOT PROVED' if status else 'proved'}, {seconds:.0f} s", flush=True)
+    if status:
+        yield from ((edit, UNKNOWN, f"its functions are not proved as they are: {lines[-1]}", 0.0) for edit in can)
+        can = {}
     is_over = False
     while not is_over:
         # (what waits for the proof of another one's function does not wait in the next round)
