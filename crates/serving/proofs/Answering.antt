@@ -1,5 +1,5 @@
 -- What a status says of properties.
-use Rattle.std.proofs.Common.{◌≡◌, ◌≢◌, ◌⊎◌, inl, inr, ℕ, Bool, true, false, List, [], ◌∷◌, ◌++◌, ◌<◌, All, Contains, Option, map, length, get_or, ap, refl, sym, subst, arith}
+use Rattle.std.proofs.Common.{◌≡◌, ◌≢◌, ◌⊎◌, inl, ℕ, Bool, true, false, List, [], ◌∷◌, ◌++◌, ◌<◌, All, Contains, Option, Some, map, length, get_or, ap, refl, sym, subst, arith}
 use Rattle.std.specs.Prelude.{◌||◌}
 use Rattle.std.specs.List.{list_any}
 use Rattle.std.specs.Io.KnownBytes.{Appends}
@@ -20,25 +20,31 @@ use Rattle.report.specs.declared.outcome_list.WalkEnd.TheVariants.{Whole}
 use Rattle.report.specs.declared.properties.Property.{Property as Own}
 use Rattle.serving.specs.Checks.{IsSourceOf}
 use Rattle.serving.specs.Askable.{IsAskable}
-use Rattle.serving.specs.Properties.{AnswersQuestions, AreAnswered, AreAskable, AreFoundOfText, HasUnaskable, IsAsked, IsTextOfProperties, IsToldOf, IsUnaskable, TellsProperties, asked_by, asked_each, has_failed, has_unheld}
+use Rattle.serving.specs.Properties.{AreAnswered, AreAskable, AreFoundOfText, HasUnaskable, IsAsked, IsTextOfProperties, IsUnaskable, TellsProperties, asked_by, asked_each, has_failed, has_unheld}
 use Rattle.serving.specs.Written.{WritesPart}
 use Rattle.serving.specs.inner.Properties.{AreThese}
+use Rattle.serving.specs.inner.Serves.{PrintsProperties, ServesQuestions}
 use Rattle.serving.proofs.Parts.{part_so}
+use Rattle.serving.proofs.Printing.{serves_so}
+use Rattle.serving.proofs.Verdicts.{at_most_five, not_five, not_one, not_zero}
 
 -- ---- what was found by one definition was found by another
 
 module _ (Is Are : WalkEnd → List Property → List ReportedOrder → Type 0) (so : (end : WalkEnd) (ps : List Property) (ss : List ReportedOrder) → Is end ps ss → Are end ps ss) where
-  pub tells_so : (status : ℕ) (old new : Option (List ℕ)) → TellsProperties Is status old new → TellsProperties Are status old new
+  tells_so : (status : ℕ) (old new : Option (List ℕ)) → TellsProperties Is status old new → TellsProperties Are status old new
   tells_so status old new tells = record {
     held = λ e. let h = tells.held e in (h.0, so Whole h.0 [] h.1, h.2, h.3);
     failed = λ e. let f = tells.failed e in (f.0, f.1, f.2, so f.2 f.0 f.1 f.3, f.4, f.5);
   }
 
-  pub text_so : (written : List ℕ) → IsTextOfProperties Is written → IsTextOfProperties Are written
+  text_so : (written : List ℕ) → IsTextOfProperties Is written → IsTextOfProperties Are written
   text_so written is = (is.0, is.1, is.2, so is.2 is.0 is.1 is.3, is.4)
 
-  pub parts_so : (old new : Option (List ℕ)) → WritesPart (IsTextOfProperties Is) old new → WritesPart (IsTextOfProperties Are) old new
+  parts_so : (old new : Option (List ℕ)) → WritesPart (IsTextOfProperties Is) old new → WritesPart (IsTextOfProperties Are) old new
   parts_so old new = part_so (IsTextOfProperties Is) (IsTextOfProperties Are) old new text_so
+
+  pub prints_so : (status : ℕ) (old new : Option (List ℕ)) → PrintsProperties Is status old new → PrintsProperties Are status old new
+  prints_so status old new s = serves_so s (tells_so status old new) (parts_so old new)
 
 -- of an accepted program, and of the text that spells it
 module _ (questions : Questions) (text : List ℕ) (source : ParsedSource) (spelled : IsSourceOf text source) (accepted : ∥ IsAccepted source.program ∥₁) where
@@ -48,39 +54,28 @@ module _ (questions : Questions) (text : List ℕ) (source : ParsedSource) (spel
   found_of_text : (end : WalkEnd) (ps : List Property) (ss : List ReportedOrder) → Theirs end ps ss → AreFoundOfText questions text end ps ss
   found_of_text end ps ss are = record { source = source; spelled = spelled; accepted = accepted; are = are }
 
-  pub answers_text : (status : ℕ) (old new : Option (List ℕ)) → TellsProperties Theirs status old new → AnswersQuestions questions text status old new
-  answers_text status old new = tells_so Theirs (AreFoundOfText questions text) found_of_text status old new
-
-  pub writes_text : (old new : Option (List ℕ)) → WritesPart (IsTextOfProperties Theirs) old new → WritesPart (IsToldOf questions text) old new
-  writes_text old new = parts_so Theirs (AreFoundOfText questions text) found_of_text old new
+  pub serves_text : (status : ℕ) (old new : Option (List ℕ)) → PrintsProperties Theirs status old new → ServesQuestions questions (Some text) status old new
+  serves_text status old new s =
+      serves_so (prints_so Theirs (AreFoundOfText questions text) found_of_text status old new s) (λ says. says) (λ writes. writes)
 
 -- of names that are the same
-module _ (p : Program) (count steps : ℕ) (asked names : List IsAsked) where
-  pub answers_asked : (status : ℕ) (old new : Option (List ℕ)) → asked ≡ names → TellsProperties (AreAnswered p count steps asked) status old new → TellsProperties (AreAnswered p count steps names) status old new
-  answers_asked status old new same = subst (λ xs. TellsProperties (AreAnswered p count steps xs) status old new) same
-
-  pub writes_asked : (old new : Option (List ℕ)) → asked ≡ names → WritesPart (IsTextOfProperties (AreAnswered p count steps asked)) old new → WritesPart (IsTextOfProperties (AreAnswered p count steps names)) old new
-  writes_asked old new same = subst (λ xs. WritesPart (IsTextOfProperties (AreAnswered p count steps xs)) old new) same
+pub prints_asked : (p : Program) (count steps : ℕ) (asked names : List IsAsked) (status : ℕ) (old new : Option (List ℕ)) → asked ≡ names → PrintsProperties (AreAnswered p count steps asked) status old new → PrintsProperties (AreAnswered p count steps names) status old new
+prints_asked p count steps asked names status old new same = subst (λ xs. PrintsProperties (AreAnswered p count steps xs) status old new) same
 
 -- ---- a status that tells nothing
 
 pub tells_nothing : (Are : WalkEnd → List Property → List ReportedOrder → Type 0) (status : ℕ) (old new : Option (List ℕ)) → status ≢ 0 → status ≢ 5 → TellsProperties Are status old new
 tells_nothing Are status old new zero five = record { held = λ e. absurd (zero e); failed = λ e. absurd (five e) }
 
-pub not_zero : (status : ℕ) → (status ≡ 2) ⊎ (status ≡ 4) → status ≢ 0
-not_zero status (inl e) = λ z. absurd (omega (arith, e, z))
-not_zero status (inr e) = λ z. absurd (omega (arith, e, z))
-
-pub not_five : (status : ℕ) → (status ≡ 2) ⊎ (status ≡ 4) → status ≢ 5
-not_five status (inl e) = λ z. absurd (omega (arith, e, z))
-not_five status (inr e) = λ z. absurd (omega (arith, e, z))
-
-pub not_one : (status : ℕ) → (status ≡ 2) ⊎ (status ≡ 4) → status ≢ 1
-not_one status (inl e) = λ z. absurd (omega (arith, e, z))
-not_one status (inr e) = λ z. absurd (omega (arith, e, z))
-
-pub refused_tells : (Are : WalkEnd → List Property → List ReportedOrder → Type 0) (status : ℕ) (old new : Option (List ℕ)) → (status ≡ 2) ⊎ (status ≡ 4) → TellsProperties Are status old new
-refused_tells Are status old new is = tells_nothing Are status old new (not_zero status is) (not_five status is)
+-- a refusal
+pub refused_prints : (Are : WalkEnd → List Property → List ReportedOrder → Type 0) (status : ℕ) (old new : Option (List ℕ)) → (status ≡ 2) ⊎ (status ≡ 4) → new ≡ old → PrintsProperties Are status old new
+refused_prints Are status old new is same = record {
+  within = at_most_five status is;
+  answers = tells_nothing Are status old new (not_zero status is) (not_five status is);
+  refused = not_one status is;
+  written = inl same;
+  untouched = λ e. same;
+}
 
 -- ---- what was printed
 

@@ -1,13 +1,11 @@
 -- What a status tells of outcomes that are compared.
-use Rattle.std.proofs.Common.{◌≡◌, ◌≢◌, ◌∙◌, ◌⊎◌, inl, inr, ◌<◌, ◌≤◌, ℕ, zero, suc, false, List, [], ◌∷◌, All, Contains, length, get_or, Option, Some, None, refl, sym, ap, subst, arith}
-use Rattle.std.specs.Prelude.{IfSome, codes, string_bytes}
+use Rattle.std.proofs.Common.{◌≡◌, ◌≢◌, ◌∙◌, ◌⊎◌, inl, inr, ◌<◌, ℕ, zero, suc, false, List, [], ◌∷◌, All, Contains, length, get_or, Option, Some, refl, sym, ap, subst, arith}
+use Rattle.std.specs.Prelude.{IfSome, string_bytes}
 use Rattle.std.specs.Global.{Global}
 use Rattle.std.specs.declared.string.String.{String}
-use Rattle.std.specs.Io.KnownBytes.{Appends}
 use Rattle.command.specs.declared.request.Against.{Against}
 use Rattle.command.specs.declared.request.Against.TheVariants.{Refined, Expected}
 use Rattle.command.specs.declared.request.Comparison.{Comparison}
-use Rattle.differences.specs.Texts.{IsFirstDifference, difference_text}
 use Rattle.syntax.specs.Tree.{Program}
 use Rattle.syntax.specs.Grammar.{ParsedSource}
 use Rattle.separation.specs.Touching.{IsAccepted}
@@ -18,60 +16,20 @@ use Rattle.report.specs.Printed.{Printed}
 use Rattle.refinements.specs.ShownBy.{IsShownAmong, IsShownBy}
 use Rattle.refinements.specs.Told.{beyond_text, refined_text}
 use Rattle.serving.specs.Checks.{IsSourceOf}
-use Rattle.serving.specs.Compared.{ComparesOutcomes, Confirms, Denies, HaveNoCode, IsEither, Tells, WritesComparison}
+use Rattle.serving.specs.Compared.{ComparesOutcomes, Confirms, Denies, HaveNoCode, WritesComparison}
 use Rattle.serving.specs.Expected.{SaysExpected, ShowsUnexpected}
 use Rattle.serving.specs.Limits.{HasNoCode}
 use Rattle.serving.specs.Outcomes.{AreOutcomesOf, IsListOfOutcomes, IsOutcomeOf}
 use Rattle.serving.specs.Refines.{AreSourcesOf, IsBeyond, Refines, SaysRefined, SaysRefines, ShowsBeyond, ShowsOther}
 use Rattle.serving.specs.Refusals.{IsRefused}
 use Rattle.serving.specs.Reports.{has_stopped}
-use Rattle.serving.specs.Written.{AppendsBeginning, WritesPart}
+use Rattle.serving.specs.Verdicts.{IsEither, Tells}
+use Rattle.serving.specs.Written.{WritesPart}
 use Rattle.serving.specs.inner.Compared.{SaysShown, ShowsUnshown}
-use Rattle.serving.proofs.Parts.{part_so}
+use Rattle.serving.specs.inner.Serves.{PrintsEither, ServesEither, ServesExpected}
 use Rattle.serving.proofs.Refusals.{refused_text, unread_refused}
-use Rattle.serving.proofs.Verdicts.{not_five, not_zero}
-
--- ---- in general
-
-module _ (S N T M : List ℕ → Type 0) (one : (w : List ℕ) → S w → T w) (other : (w : List ℕ) → N w → M w) where
-  pub tells_so : (status : ℕ) (old new : Option (List ℕ)) → Tells S N status old new → Tells T M status old new
-  tells_so status old new t = record {
-    so = λ e. let w = t.so e in (w.0, one w.0 w.1, w.2);
-    not_so = λ e. let w = t.not_so e in (w.0, other w.0 w.1, w.2);
-  }
-
-  either_so : (w : List ℕ) → IsEither S N w → IsEither T M w
-  either_so w (inl s) = inl (one w s)
-  either_so w (inr n) = inr (other w n)
-
-  pub writes_so : (old new : Option (List ℕ)) → WritesPart (IsEither S N) old new → WritesPart (IsEither T M) old new
-  writes_so old new w = part_so (IsEither S N) (IsEither T M) old new either_so w
-
-pub tells_nothing : (S N : List ℕ → Type 0) (status : ℕ) (old new : Option (List ℕ)) → status ≢ 0 → status ≢ 5 → Tells S N status old new
-tells_nothing S N status old new no_zero no_five = record { so = λ e. absurd (no_zero e); not_so = λ e. absurd (no_five e) }
-
--- a refusal
-pub tells_refusal : (S N : List ℕ → Type 0) (status : ℕ) (old new : Option (List ℕ)) → status ≤ 4 → status ≢ 0 → Tells S N status old new
-tells_refusal S N status old new within not_ended = tells_nothing S N status old new not_ended (λ e. absurd (omega (arith, within, e)))
-
--- ---- what is known of a file
-
-pub known_so : (P Q : List ℕ → Type 0) → ((bytes : List ℕ) → P bytes → Q bytes) → (known : Option (List ℕ)) → IfSome known P → IfSome known Q
-known_so P Q so None p = tt
-known_so P Q so (Some bytes) p = so bytes p
-
-pub known_all : (P : List ℕ → Type 0) → ((bytes : List ℕ) → P bytes) → (known : Option (List ℕ)) → IfSome known P
-known_all P all None = tt
-known_all P all (Some bytes) = all bytes
-
-pub known_is : (P : List ℕ → Type 0) (known : Option (List ℕ)) (found taken : List ℕ) → IfSome known (λ bytes. found ≡ bytes) → taken ≡ found → P taken → IfSome known P
-known_is P None found taken is same p = tt
-known_is P (Some bytes) found taken is same p = subst P (same ∙ is) p
-
--- or something else is so
-pub known_or : (X : Type 0) (P : List ℕ → Type 0) (known : Option (List ℕ)) (found taken : List ℕ) → IfSome known (λ bytes. found ≡ bytes) → taken ≡ found → X ⊎ P taken → X ⊎ IfSome known P
-known_or X P known found taken is same (inl x) = inl x
-known_or X P known found taken is same (inr p) = inr (known_is P known found taken is same p)
+use Rattle.serving.proofs.Printing.{serves_so}
+use Rattle.serving.proofs.Verdicts.{either_served, known_all, known_so, not_five, not_zero, prints_so, tells_nothing}
 
 -- ---- comparisons of which a status tells nothing
 
@@ -118,70 +76,17 @@ module _ (c : Comparison) (file : String Global) (text : List ℕ) (other : Opti
 
 -- ---- lists that are expected
 
-module _ (Is IsList : List ℕ → Type 0) (so : (text : List ℕ) → Is text → IsList text) (bytes : List ℕ) where
-  pub expected_so : (w : List ℕ) → SaysExpected Is bytes w → SaysExpected IsList bytes w
-  expected_so w s = (so bytes s.0, s.1)
+module _ (Is IsList : List ℕ → Type 0) (so : (text : List ℕ) → Is text → IsList text) where
+  expected_so : (bytes w : List ℕ) → SaysExpected Is bytes w → SaysExpected IsList bytes w
+  expected_so bytes w s = (so bytes s.0, s.1)
 
-  pub unexpected_so : (w : List ℕ) → ShowsUnexpected Is bytes w → ShowsUnexpected IsList bytes w
-  unexpected_so w s = (s.0, s.1, so s.0 s.2, s.3, s.4)
+  unexpected_so : (bytes w : List ℕ) → ShowsUnexpected Is bytes w → ShowsUnexpected IsList bytes w
+  unexpected_so bytes w s = (s.0, s.1, so s.0 s.2, s.3, s.4)
 
-  pub tells_expected : (status : ℕ) (old new : Option (List ℕ)) → Tells (SaysExpected Is bytes) (ShowsUnexpected Is bytes) status old new → Tells (SaysExpected IsList bytes) (ShowsUnexpected IsList bytes) status old new
-  tells_expected status old new t = tells_so (SaysExpected Is bytes) (ShowsUnexpected Is bytes) (SaysExpected IsList bytes) (ShowsUnexpected IsList bytes) expected_so unexpected_so status old new t
-
-  pub writes_expected : (old new : Option (List ℕ)) → WritesPart (IsEither (SaysExpected Is bytes) (ShowsUnexpected Is bytes)) old new → WritesPart (IsEither (SaysExpected IsList bytes) (ShowsUnexpected IsList bytes)) old new
-  writes_expected old new w = writes_so (SaysExpected Is bytes) (ShowsUnexpected Is bytes) (SaysExpected IsList bytes) (ShowsUnexpected IsList bytes) expected_so unexpected_so old new w
-
--- what is told of a list
-module _ (list expected : List ℕ) (status : ℕ) (old new : Option (List ℕ)) where
-  abbrev pub SaysSame : List ℕ → Type 0
-  SaysSame = SaysExpected (λ t. t ≡ list) expected
-
-  abbrev pub ShowsOtherLine : List ℕ → Type 0
-  ShowsOtherLine = ShowsUnexpected (λ t. t ≡ list) expected
-
-  same_list : list ≡ expected → (w : List ℕ) → w ≡ codes "as expected\n" → SaysSame w
-  same_list same w is = (sym same, is)
-
-  pub tells_same : list ≡ expected → (status ≡ 0) ⊎ (status ≡ 4) → (status ≡ 0 → Appends old new (codes "as expected\n")) → Tells SaysSame ShowsOtherLine status old new
-  tells_same same is says = record {
-    so = λ e. (codes "as expected\n", same_list same (codes "as expected\n") refl, says e);
-    not_so = λ e. absurd (never_five is e);
-  }
-    where
-      never_five : (status ≡ 0) ⊎ (status ≡ 4) → status ≡ 5 → ⊥
-      never_five (inl a) e = absurd (omega (arith, a, e))
-      never_five (inr a) e = absurd (omega (arith, a, e))
-
-  pub writes_same : list ≡ expected → AppendsBeginning old new (codes "as expected\n") → WritesPart (IsEither SaysSame ShowsOtherLine) old new
-  writes_same same part = inr (codes "as expected\n", inl (same_list same (codes "as expected\n") refl), part)
-
-  module _ (at : ℕ) (first : IsFirstDifference expected list at) (told : List ℕ) (is : told ≡ difference_text (codes "expected") (codes "found") expected list at) where
-    other_line : ShowsOtherLine told
-    other_line = (list, at, refl, first, is)
-
-    pub tells_line : status ≡ 5 → Appends old new told → Tells SaysSame ShowsOtherLine status old new
-    tells_line five appends = record { so = λ e. absurd (omega (arith, five, e)); not_so = λ e. (told, other_line, appends) }
-
-    pub writes_line : AppendsBeginning old new told → WritesPart (IsEither SaysSame ShowsOtherLine) old new
-    writes_line part = inr (told, inr other_line, part)
-
--- the list that was compared is one
-pub expected_list : (Is IsList : List ℕ → Type 0) → ((text : List ℕ) → Is text → IsList text) → (known : Option (List ℕ)) (status : ℕ) (old new : Option (List ℕ)) → IfSome known (λ bytes. Tells (SaysExpected Is bytes) (ShowsUnexpected Is bytes) status old new) → IfSome known (λ bytes. Tells (SaysExpected IsList bytes) (ShowsUnexpected IsList bytes) status old new)
-expected_list Is IsList so known status old new t =
-    known_so (λ bytes. Tells (SaysExpected Is bytes) (ShowsUnexpected Is bytes) status old new) (λ bytes. Tells (SaysExpected IsList bytes) (ShowsUnexpected IsList bytes) status old new)
-    (λ bytes. tells_expected Is IsList so bytes status old new) known t
-
-pub expected_list_written : (Is IsList : List ℕ → Type 0) → ((text : List ℕ) → Is text → IsList text) → (known old new : Option (List ℕ)) → IfSome known (λ bytes. WritesPart (IsEither (SaysExpected Is bytes) (ShowsUnexpected Is bytes)) old new) → IfSome known (λ bytes. WritesPart (IsEither (SaysExpected IsList bytes) (ShowsUnexpected IsList bytes)) old new)
-expected_list_written Is IsList so known old new w =
-    known_so (λ bytes. WritesPart (IsEither (SaysExpected Is bytes) (ShowsUnexpected Is bytes)) old new) (λ bytes. WritesPart (IsEither (SaysExpected IsList bytes) (ShowsUnexpected IsList bytes)) old new)
-    (λ bytes. writes_expected Is IsList so bytes old new) known w
-
-pub nothing_expected : (IsList : List ℕ → Type 0) (known : Option (List ℕ)) (status : ℕ) (old new : Option (List ℕ)) → status ≢ 0 → status ≢ 5 → IfSome known (λ bytes. Tells (SaysExpected IsList bytes) (ShowsUnexpected IsList bytes) status old new)
-nothing_expected IsList known status old new no_zero no_five =
-    known_all (λ bytes. Tells (SaysExpected IsList bytes) (ShowsUnexpected IsList bytes) status old new) (λ bytes. tells_nothing (SaysExpected IsList bytes) (ShowsUnexpected IsList bytes) status old new no_zero no_five) known
-
-pub nothing_expected_written : (IsList : List ℕ → Type 0) (known old new : Option (List ℕ)) → new ≡ old → IfSome known (λ bytes. WritesPart (IsEither (SaysExpected IsList bytes) (ShowsUnexpected IsList bytes)) old new)
-nothing_expected_written IsList known old new same = known_all (λ bytes. WritesPart (IsEither (SaysExpected IsList bytes) (ShowsUnexpected IsList bytes)) old new) (λ bytes. inl same) known
+  -- the list that was compared is one
+  pub expected_served : (Refuses : Type 0) (known : Option (List ℕ)) (status : ℕ) (old new : Option (List ℕ)) → ServesExpected Is ⊥ known status old new → ServesExpected IsList Refuses known status old new
+  expected_served Refuses known status old new s =
+      either_served (SaysExpected Is) (ShowsUnexpected Is) (SaysExpected IsList) (ShowsUnexpected IsList) expected_so unexpected_so Refuses known status old new s
 
 -- ---- outcomes that are another program's
 
@@ -238,11 +143,8 @@ module _ (p q : Program) (count : ℕ) (name : List ℕ) (end : WalkEnd) (outcom
   abbrev pub Shows : List ℕ → Type 0
   Shows = ShowsUnshown name end outcomes stuck others_end others
 
-  pub tells_refines : (status : ℕ) (old new : Option (List ℕ)) → Tells Says Shows status old new → Tells (SaysRefines name count p q) (ShowsBeyond name count p q) status old new
-  tells_refines status old new t = tells_so Says Shows (SaysRefines name count p q) (ShowsBeyond name count p q) says_refines shows_beyond status old new t
-
-  pub writes_refines : (old new : Option (List ℕ)) → WritesPart (IsEither Says Shows) old new → WritesPart (IsEither (SaysRefines name count p q) (ShowsBeyond name count p q)) old new
-  writes_refines old new w = writes_so Says Shows (SaysRefines name count p q) (ShowsBeyond name count p q) says_refines shows_beyond old new w
+  pub prints_refines : (status : ℕ) (old new : Option (List ℕ)) → PrintsEither Says Shows status old new → PrintsEither (SaysRefines name count p q) (ShowsBeyond name count p q) status old new
+  prints_refines status old new s = prints_so Says Shows (SaysRefines name count p q) (ShowsBeyond name count p q) says_refines shows_beyond status old new s
 
 -- what is told where both lists are whole
 module _ (name : List ℕ) (end : WalkEnd) (outcomes stuck : List ReportedOrder) (others_end : WalkEnd) (others : List ReportedOrder) (status : ℕ) (old new : Option (List ℕ)) (others_whole : others_end ≡ Whole) where
@@ -252,44 +154,25 @@ module _ (name : List ℕ) (end : WalkEnd) (outcomes stuck : List ReportedOrder)
   abbrev pub Shown : List ℕ → Type 0
   Shown = ShowsUnshown name end outcomes stuck others_end others
 
-  unshown : (one : ReportedOrder) → Contains outcomes one → (IsShownAmong others one.shown → ⊥) → (w : List ℕ) → w ≡ beyond_text name one → Shown w
-  unshown one among none w is = record { others_whole = others_whole; one = one; among = among; none = none; shown = is }
+  module _ (one : ReportedOrder) (among : Contains outcomes one) (none : IsShownAmong others one.shown → ⊥) where
+    unshown : (w : List ℕ) → w ≡ beyond_text name one → Shown w
+    unshown w is = record { others_whole = others_whole; one = one; among = among; none = none; shown = is }
 
-  pub tells_beyond : (one : ReportedOrder) → Contains outcomes one → (IsShownAmong others one.shown → ⊥) → (status ≡ 5) ⊎ (status ≡ 4) → (status ≡ 5 → Appends old new (beyond_text name one)) → Tells Said Shown status old new
-  tells_beyond one among none is shows = record {
-    so = λ e. absurd (not_zero_of is e);
-    not_so = λ e. (beyond_text name one, unshown one among none (beyond_text name one) refl, shows e);
-  }
-    where
-      not_zero_of : (status ≡ 5) ⊎ (status ≡ 4) → status ≡ 0 → ⊥
-      not_zero_of (inl a) e = absurd (omega (arith, a, e))
-      not_zero_of (inr a) e = absurd (omega (arith, a, e))
-
-  pub writes_beyond : (one : ReportedOrder) → Contains outcomes one → (IsShownAmong others one.shown → ⊥) → WritesPart (λ w. w ≡ beyond_text name one) old new → WritesPart (IsEither Said Shown) old new
-  writes_beyond one among none w = part_so (λ t. t ≡ beyond_text name one) (IsEither Said Shown) old new (λ t e. inr (unshown one among none t e)) w
+    pub prints_beyond : PrintsEither (λ (w : List ℕ). ⊥) (λ (w : List ℕ). w ≡ beyond_text name one) status old new → PrintsEither Said Shown status old new
+    prints_beyond s = prints_so (λ (w : List ℕ). ⊥) (λ (w : List ℕ). w ≡ beyond_text name one) Said Shown (λ w no. absurd no) unshown status old new s
 
   module _ (whole : end ≡ Whole) (each : All (IsShownAmong others) (reports outcomes)) (n m : ℕ) (count : n ≡ length outcomes) (others_count : m ≡ length others) where
-    all_said : (w : List ℕ) → stuck ≡ [] → w ≡ refined_text name n m → Said w
-    all_said w none is = record {
+    all_said : (w : List ℕ) → (stuck ≡ []) × (w ≡ refined_text name n m) → Said w
+    all_said w is = record {
       whole = whole;
       others_whole = others_whole;
-      none_stuck = none;
+      none_stuck = is.0;
       each = each;
-      said = is ∙ ap (λ k. refined_text name k m) count ∙ ap (refined_text name (length outcomes)) others_count;
+      said = is.1 ∙ ap (λ k. refined_text name k m) count ∙ ap (refined_text name (length outcomes)) others_count;
     }
 
-    pub tells_all : (status ≡ 0) ⊎ (status ≡ 4) → (status ≡ 0 → stuck ≡ []) → (status ≡ 0 → Appends old new (refined_text name n m)) → Tells Said Shown status old new
-    tells_all is none says = record {
-      so = λ e. (refined_text name n m, all_said (refined_text name n m) (none e) refl, says e);
-      not_so = λ e. absurd (not_five_of is e);
-    }
-      where
-        not_five_of : (status ≡ 0) ⊎ (status ≡ 4) → status ≡ 5 → ⊥
-        not_five_of (inl a) e = absurd (omega (arith, a, e))
-        not_five_of (inr a) e = absurd (omega (arith, a, e))
-
-    pub writes_all : WritesPart (λ w. (stuck ≡ []) × (w ≡ refined_text name n m)) old new → WritesPart (IsEither Said Shown) old new
-    writes_all w = part_so (λ t. (stuck ≡ []) × (t ≡ refined_text name n m)) (IsEither Said Shown) old new (λ t e. inl (all_said t e.0 e.1)) w
+    pub prints_all : PrintsEither (λ (w : List ℕ). (stuck ≡ []) × (w ≡ refined_text name n m)) (λ (w : List ℕ). ⊥) status old new → PrintsEither Said Shown status old new
+    prints_all s = prints_so (λ (w : List ℕ). (stuck ≡ []) × (w ≡ refined_text name n m)) (λ (w : List ℕ). ⊥) Said Shown all_said (λ w no. absurd no) status old new s
 
 -- the programs are those of two texts
 module _ (text other : List ℕ) (this that : ParsedSource) (spelled : IsSourceOf text this) (accepted : ∥ IsAccepted this.program ∥₁) (other_spelled : IsSourceOf other that) (other_accepted : ∥ IsAccepted that.program ∥₁) where
@@ -304,15 +187,11 @@ module _ (text other : List ℕ) (this that : ParsedSource) (spelled : IsSourceO
     is_so = is;
   }
 
-  pub tells_refined : (name : List ℕ) (count status : ℕ) (old new : Option (List ℕ)) → Tells (SaysRefines name count this.program that.program) (ShowsBeyond name count this.program that.program) status old new → Tells (SaysRefined name count text other) (ShowsOther name count text other) status old new
-  tells_refined name count status old new t =
-      tells_so (SaysRefines name count this.program that.program) (ShowsBeyond name count this.program that.program) (SaysRefined name count text other) (ShowsOther name count text other)
-      (λ w s. of_sources (λ p q. SaysRefines name count p q w) s) (λ w s. of_sources (λ p q. ShowsBeyond name count p q w) s) status old new t
-
-  pub writes_refined : (name : List ℕ) (count : ℕ) (old new : Option (List ℕ)) → WritesPart (IsEither (SaysRefines name count this.program that.program) (ShowsBeyond name count this.program that.program)) old new → WritesPart (IsEither (SaysRefined name count text other) (ShowsOther name count text other)) old new
-  writes_refined name count old new w =
-      writes_so (SaysRefines name count this.program that.program) (ShowsBeyond name count this.program that.program) (SaysRefined name count text other) (ShowsOther name count text other)
-      (λ w s. of_sources (λ p q. SaysRefines name count p q w) s) (λ w s. of_sources (λ p q. ShowsBeyond name count p q w) s) old new w
+  pub refined_served : (name : List ℕ) (count status : ℕ) (old new : Option (List ℕ)) → PrintsEither (SaysRefines name count this.program that.program) (ShowsBeyond name count this.program that.program) status old new → ServesEither (SaysRefined name count text) (ShowsOther name count text) (HasNoCode text ⊎ HasNoCode other) (Some other) status old new
+  refined_served name count status old new s =
+      let told = prints_so (SaysRefines name count this.program that.program) (ShowsBeyond name count this.program that.program) (SaysRefined name count text other) (ShowsOther name count text other)
+      (λ w is. of_sources (λ p q. SaysRefines name count p q w) is) (λ w is. of_sources (λ p q. ShowsBeyond name count p q w) is) status old new s in
+      serves_so told (λ says. says) (λ writes. writes)
 
 pub nothing_refined : (name : List ℕ) (count : ℕ) (text : List ℕ) (known : Option (List ℕ)) (status : ℕ) (old new : Option (List ℕ)) → status ≢ 0 → status ≢ 5 → IfSome known (λ bytes. Tells (SaysRefined name count text bytes) (ShowsOther name count text bytes) status old new)
 nothing_refined name count text known status old new no_zero no_five =

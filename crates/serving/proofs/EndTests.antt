@@ -1,5 +1,5 @@
 -- Tests of ends, over the threads that a report shows.
-use Rattle.std.proofs.Common.{◌≡◌, ◌⊎◌, inl, inr, ℕ, Bool, true, false, List, [], ◌∷◌, ◌||◌, ◌∙◌, map, refl, ap, ap₂, arith}
+use Rattle.std.proofs.Common.{◌≡◌, ◌≢◌, ◌≤◌, ◌⊎◌, inl, inr, ℕ, Bool, true, false, List, [], ◌∷◌, ◌||◌, ◌∙◌, map, refl, ap, ap₂, arith}
 use Rattle.std.specs.List.{list_any}
 use Rattle.std.specs.Prelude.{if◌then◌else◌}
 use Rattle.report.specs.declared.printed.End.{End}
@@ -39,3 +39,14 @@ none_stopped status shown is e = none_by (has_stopped shown) (has_trapped shown)
 -- the status by both tests is that of the report
 pub status_shown : (shown : plain.Printed) (stopped trapped : Bool) (status : ℕ) → status ≡ (if stopped then 4 else if trapped then 3 else 0) → stopped ≡ has_stopped shown → trapped ≡ has_trapped shown → status ≡ exit_status shown
 status_shown shown stopped trapped status is e f = is ∙ ap₂ (λ s t. if s then 4 else if t then 3 else 0) e f
+
+-- and it is neither that of a refusal nor more than where one has stopped
+pub few_shown : (stopped trapped : Bool) (status : ℕ) → status ≡ (if stopped then 4 else if trapped then 3 else 0) → status ≤ 4
+few_shown true trapped status is = omega (arith, is)
+few_shown false true status is = omega (arith, is)
+few_shown false false status is = omega (arith, is)
+
+pub none_refused : (stopped trapped : Bool) (status : ℕ) → status ≡ (if stopped then 4 else if trapped then 3 else 0) → status ≢ 1
+none_refused true trapped status is = λ one. absurd (omega (arith, is, one))
+none_refused false true status is = λ one. absurd (omega (arith, is, one))
+none_refused false false status is = λ one. absurd (omega (arith, is, one))

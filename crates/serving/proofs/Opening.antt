@@ -15,9 +15,9 @@ use Rattle.serving.specs.Refused.{IsRefusedFor}
 use Rattle.serving.specs.Written.{IsAskedFor, WritesPart}
 use Rattle.serving.specs.inner.Serves.{ServesClaim, ServesComparison, ServesFile, ServesQuestions, ServesTask}
 use Rattle.serving.proofs.Answering.{tells_nothing}
+use Rattle.serving.proofs.Certifying.{no_claim_verdict, nothing_claimed}
 use Rattle.serving.proofs.Comparing.{lacks_code, nothing_compared, nothing_compared_written}
 use Rattle.serving.proofs.Refusals.{nothing_printed, refused_task, refused_text, unread_refused}
-use Rattle.serving.proofs.Verdicts.{no_claim_verdict, nothing_claimed}
 
 -- ---- the status of a file that was not read
 

@@ -46,10 +46,6 @@ module _ {X : Type 0} (bytes : X → List ℕ) where
   joined_more : (xs : List X) (i : ℕ) (x : X) → x ≡ get_or xs i x → i < length xs → flat_map bytes (take (i + 1) xs) ≡ flat_map bytes (take i xs) ++ bytes x
   joined_more xs i x at lt = ap (flat_map bytes) (take_more xs i x lt ∙ ap (λ y. take i xs ++ y ∷ []) (sym at)) ∙ flat_map-append bytes (take i xs) (x ∷ []) ∙ ap (λ l. flat_map bytes (take i xs) ++ l) (append-nil (bytes x))
 
-  -- one more is written
-  pub pieces_more : (a b c : Option (List ℕ)) (xs : List X) (i : ℕ) (x : X) → x ≡ get_or xs i x → i < length xs → Appends a b (flat_map bytes (take i xs)) → Appends b c (bytes x) → Appends a c (flat_map bytes (take (i + 1) xs))
-  pieces_more a b c xs i x at lt p q = subst (Appends a c) (sym (joined_more xs i x at lt)) (appends_more a b c (flat_map bytes (take i xs)) (bytes x) p q)
-
   four : (before begun left rest : List ℕ) → (before ++ (begun ++ left)) ++ rest ≡ (before ++ begun) ++ (left ++ rest)
   four before begun left rest = simp append_assoc
 

@@ -1,11 +1,11 @@
 -- Certifying a report: whether it is what the source prints in an order of threads.
-use Rattle.std.specs.Prelude.{◌≡◌, ◌⊎◌, ℕ, List, Option, IfSome, codes}
-use Rattle.std.specs.Io.KnownBytes.{Appends}
+use Rattle.std.specs.Prelude.{◌≡◌, ℕ, List, Option, IfSome, codes}
 use Rattle.command.specs.Asked.{IsListedOrder}
 use Rattle.command.specs.declared.request.Claim.{Claim}
 use Rattle.differences.specs.Texts.{IsFirstDifference, difference_text}
 use Rattle.serving.specs.Checks.{Accepts}
 use Rattle.serving.specs.Orders.{RunsInOrder}
+use Rattle.serving.specs.Verdicts.{IsEither, Tells}
 use Rattle.serving.specs.Written.{IsReportOf, WritesPart}
 
 module _ (IsDue : List ℕ → Type 0) (found : List ℕ) where
@@ -17,14 +17,6 @@ module _ (IsDue : List ℕ → Type 0) (found : List ℕ) where
   abbrev pub ShowsDifference : List ℕ → Type 0
   ShowsDifference written = (due : List ℕ) × (at : ℕ) × IsDue due × IsFirstDifference due found at
       × (written ≡ difference_text (codes "source") (codes "report") due found at)
-
-  abbrev pub IsVerdict : List ℕ → Type 0
-  IsVerdict written = SaysSo written ⊎ ShowsDifference written
-
-  -- the status 0 tells that it is, and 5 that another is
-  pub record Certifies (status : ℕ) (old new : Option (List ℕ)) : Type 0 where
-    pub certified : status ≡ 0 → (written : List ℕ) × SaysSo written × Appends old new written
-    pub refuted : status ≡ 5 → (written : List ℕ) × ShowsDifference written × Appends old new written
 
 -- what the source prints in the order that a text lists
 abbrev pub IsPrintedInOrder : Claim → (listed text : List ℕ) → (written : List ℕ) → Type 0
@@ -40,10 +32,12 @@ OneReportIsPrinted = (claim : Claim) (listed text one other : List ℕ) →
 abbrev pub CertifiesReport : Claim → (listed report : Option (List ℕ)) → (text : List ℕ) → (status : ℕ) →
     (old new : Option (List ℕ)) → Type 0
 CertifiesReport claim listed report text status old new = IfSome listed (λ bytes. IfSome report
-    (λ found. Certifies (IsPrintedInOrder claim bytes text) found status old new))
+    (λ found. Tells (SaysSo (IsPrintedInOrder claim bytes text) found)
+    (ShowsDifference (IsPrintedInOrder claim bytes text) found) status old new))
 
 -- what is written for it, whatever the status
 abbrev pub WritesVerdict : Claim → (listed report : Option (List ℕ)) → (text : List ℕ) →
     (old new : Option (List ℕ)) → Type 0
 WritesVerdict claim listed report text old new = IfSome listed (λ bytes. IfSome report
-    (λ found. WritesPart (IsVerdict (IsPrintedInOrder claim bytes text) found) old new))
+    (λ found. WritesPart (IsEither (SaysSo (IsPrintedInOrder claim bytes text) found)
+    (ShowsDifference (IsPrintedInOrder claim bytes text) found)) old new))

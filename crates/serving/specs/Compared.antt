@@ -1,6 +1,5 @@
 -- Comparing outcomes: with those of another program, or with a list.
-use Rattle.std.specs.Prelude.{◌≡◌, ◌⊎◌, ℕ, List, Option, IfSome, string_bytes}
-use Rattle.std.specs.Io.KnownBytes.{Appends}
+use Rattle.std.specs.Prelude.{◌⊎◌, ℕ, List, Option, IfSome, string_bytes}
 use Rattle.command.specs.declared.request.Against.{Against}
 use Rattle.command.specs.declared.request.Against.TheVariants.{Refined, Expected}
 use Rattle.command.specs.declared.request.Comparison.{Comparison}
@@ -8,6 +7,7 @@ use Rattle.serving.specs.Expected.{SaysExpected, ShowsUnexpected}
 use Rattle.serving.specs.Limits.{HasNoCode}
 use Rattle.serving.specs.Outcomes.{IsListOfOutcomes}
 use Rattle.serving.specs.Refines.{SaysRefined, ShowsOther}
+use Rattle.serving.specs.Verdicts.{IsEither, Tells}
 use Rattle.serving.specs.Written.{WritesPart}
 
 -- the name of the file that outcomes are compared with
@@ -24,14 +24,6 @@ Confirms (Expected file) count text other written = SaysExpected (IsListOfOutcom
 abbrev pub Denies : Against → (count : ℕ) → (text other written : List ℕ) → Type 0
 Denies (Refined file) count text other written = ShowsOther (string_bytes file) count text other written
 Denies (Expected file) count text other written = ShowsUnexpected (IsListOfOutcomes count text) other written
-
--- the status 0 tells that it is so, and 5 that it is not
-pub record Tells (IsSo IsNot : List ℕ → Type 0) (status : ℕ) (old new : Option (List ℕ)) : Type 0 where
-  pub so : status ≡ 0 → (written : List ℕ) × IsSo written × Appends old new written
-  pub not_so : status ≡ 5 → (written : List ℕ) × IsNot written × Appends old new written
-
-abbrev pub IsEither : (IsSo IsNot : List ℕ → Type 0) → List ℕ → Type 0
-IsEither IsSo IsNot written = IsSo written ⊎ IsNot written
 
 -- a comparison, where these bytes are those of the source and of the other file
 abbrev pub ComparesOutcomes : Comparison → (other : Option (List ℕ)) → (text : List ℕ) → (status : ℕ) →

@@ -34,6 +34,8 @@ pub mod Possible
 pub mod Laws
 -- what is written for a request
 pub mod Written
+-- whether something is so or not
+pub mod Verdicts
 -- reports that are certified
 pub mod Certified
 -- outcomes that are those of another program

@@ -3,14 +3,14 @@
 ghost use Rattle.std.specs.Prelude.{◌≡◌, ◌≢◌, ◌≤◌, [], map, IfOk, IfErr};
 ghost use Rattle.std.specs.List.{list_any};
 ghost use Rattle.std.specs.Io.KnownBytes.{Appends};
-ghost use Rattle.report.specs.OutcomeList.{list_text};
 ghost use Rattle.report.specs.Views.{reported_of};
 ghost use Rattle.report.specs.declared.outcome_list.WalkEnd.TheVariants.{Whole};
 ghost use Rattle.serving.specs.Limits.{HasNoCode, IsFaultInOrders};
 ghost use Rattle.serving.specs.Outcomes.{AreOutcomesOfText, IsListOfOutcomes, PrintsOutcomes, outcomes_status};
 ghost use Rattle.serving.specs.Reports.{has_trapped};
 ghost use Rattle.serving.specs.Written.{WritesPart};
-ghost use Rattle.serving.specs.inner.Serves.{ServesText};
+ghost use Rattle.serving.specs.inner.Compared.{list_of};
+ghost use Rattle.serving.specs.inner.Serves.{Serves, ServesText};
 
 use crate::listed_ends::tell_listed_ends;
 use crate::print::{ENDED, STOPPED, TRAPPED, has_trapped, print};
@@ -54,17 +54,10 @@ fn print_outcomes<A: Allocator + Copy, W: Write, E: Write>(
     out: &mut W,
     err: &mut E,
 ) -> u8
-    ensures status { result ≤ 4 }
-    ensures not_refused { result ≢ 1 }
-    ensures whole { result ≢ 4 → (found.now.end ≡ Whole) × (map reported_of found.now.stuck.items ≡ [])
-        × (result ≡ outcomes_status (map reported_of found.now.outcomes.items)) }
-    ensures printed { result ≢ 4 → Appends (W.contents out.old) (W.contents out.new)
-        (list_text (map reported_of found.now.outcomes.items) (map reported_of found.now.stuck.items) found.now.states
-        found.now.end) }
-    ensures written { WritesPart
-        (λ written. written ≡ list_text (map reported_of found.now.outcomes.items)
-        (map reported_of found.now.stuck.items) found.now.states found.now.end)
-        (W.contents out.old) (W.contents out.new) }
+    ensures { Serves 4
+        (λ s o n. s ≢ 4 → (found.now.end ≡ Whole) × (map reported_of found.now.stuck.items ≡ [])
+        × (s ≡ outcomes_status (map reported_of found.now.outcomes.items)) × Appends o n (list_of found.now)) ⊥
+        (WritesPart (λ written. written ≡ list_of found.now)) result (W.contents out.old) (W.contents out.new) }
 {
     match list_text(
         alloc,

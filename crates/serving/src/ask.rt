@@ -10,12 +10,10 @@ ghost use Rattle.report.specs.Views.{reported_of};
 ghost use Rattle.report.specs.declared.outcome_list.WalkEnd.TheVariants.{Whole};
 ghost use Rattle.serving.specs.Codes.{IsCodeOf};
 ghost use Rattle.serving.specs.Askable.{IsAskable};
-ghost use Rattle.serving.specs.Properties.{AreAnswered, HasUnaskable, IsTextOfProperties};
-ghost use Rattle.serving.specs.Properties.{IsUnaskable, TellsProperties, asked_by, asked_each, has_failed, has_unheld};
-ghost use Rattle.serving.specs.Properties.{is_failed, is_held, names_listed};
-ghost use Rattle.serving.specs.Written.{WritesPart};
+ghost use Rattle.serving.specs.Properties.{AreAnswered, HasUnaskable, IsUnaskable, asked_by, asked_each};
+ghost use Rattle.serving.specs.Properties.{has_failed, has_unheld, is_failed, is_held, names_listed};
 ghost use Rattle.serving.specs.inner.Properties.{AreThese};
-ghost use Rattle.serving.specs.inner.Serves.{ServesQuestions};
+ghost use Rattle.serving.specs.inner.Serves.{PrintsProperties, ServesQuestions};
 
 use crate::askable::{Unaskable, first_unaskable};
 use crate::files::{Files, text_of};
@@ -116,13 +114,9 @@ fn ask_program<A: Allocator + Copy, W: Write, E: Write>(
     teller: &mut Teller<'_, E>,
 ) -> u8
     requires code { IsCodeOf (program_of compiled.now.accepted.safe.typed.unit) compiled.now.code }
-    ensures status { result ≤ 5 }
-    ensures not_refused { result ≢ 1 }
-    ensures answer { TellsProperties (AreAnswered (program_of compiled.now.accepted.safe.typed.unit)
+    ensures prints { PrintsProperties (AreAnswered (program_of compiled.now.accepted.safe.typed.unit)
         questions.now.threads questions.now.steps (asked_by questions.now)) result (W.contents out.old)
         (W.contents out.new) }
-    ensures written { WritesPart (IsTextOfProperties (AreAnswered (program_of compiled.now.accepted.safe.typed.unit)
-        questions.now.threads questions.now.steps (asked_by questions.now))) (W.contents out.old) (W.contents out.new) }
     ensures unaskable { result ≡ 2 → HasUnaskable (program_of compiled.now.accepted.safe.typed.unit)
         (asked_by questions.now) }
 {
@@ -154,15 +148,9 @@ fn ask_names<A: Allocator + Copy, W: Write, E: Write>(
     teller: &mut Teller<'_, E>,
 ) -> u8
     requires code { IsCodeOf (program_of compiled.now.accepted.safe.typed.unit) compiled.now.code }
-    ensures status { result ≤ 5 }
-    ensures not_refused { result ≢ 1 }
-    ensures answer { TellsProperties (AreAnswered (program_of compiled.now.accepted.safe.typed.unit)
+    ensures prints { PrintsProperties (AreAnswered (program_of compiled.now.accepted.safe.typed.unit)
         questions.now.threads questions.now.steps
         (asked_each false (map (λ n. n.now) always.now) ++ asked_each true (map (λ n. n.now) last.now))) result
-        (W.contents out.old) (W.contents out.new) }
-    ensures written { WritesPart (IsTextOfProperties (AreAnswered (program_of compiled.now.accepted.safe.typed.unit)
-        questions.now.threads questions.now.steps
-        (asked_each false (map (λ n. n.now) always.now) ++ asked_each true (map (λ n. n.now) last.now))))
         (W.contents out.old) (W.contents out.new) }
     ensures unaskable { result ≡ 2 → HasUnaskable (program_of compiled.now.accepted.safe.typed.unit)
         (asked_each false (map (λ n. n.now) always.now) ++ asked_each true (map (λ n. n.now) last.now)) }
@@ -229,14 +217,9 @@ fn print_found<A: Allocator + Copy, W: Write, E: Write>(
     out: &mut W,
     err: &mut E,
 ) -> u8
-    ensures status { result ≤ 5 }
-    ensures not_refused { result ≢ 1 }
-    ensures not_unusable { result ≢ 2 }
-    ensures answer { TellsProperties (AreThese found.now.end (map property_of found.now.properties.items)
+    ensures prints { PrintsProperties (AreThese found.now.end (map property_of found.now.properties.items)
         (map reported_of found.now.stuck.items)) result (W.contents out.old) (W.contents out.new) }
-    ensures written { WritesPart (IsTextOfProperties (AreThese found.now.end
-        (map property_of found.now.properties.items) (map reported_of found.now.stuck.items))) (W.contents out.old)
-        (W.contents out.new) }
+    ensures not_unusable { result ≢ 2 }
 {
     match properties_text(
         alloc,

@@ -1,12 +1,11 @@
 //! Certifying a report: whether it is what the source prints in an order of threads.
 
-ghost use Rattle.std.specs.Prelude.{◌≡◌, ◌≢◌, ◌≤◌, ◌⊎◌, IfErr, IfOk, IfSome, string_bytes, Some};
+ghost use Rattle.std.specs.Prelude.{◌≡◌, ◌⊎◌, IfErr, IfOk, IfSome, string_bytes, Some};
 ghost use Rattle.command.specs.Asked.{IsListedOrder};
 ghost use Rattle.syntax.specs.Views.{program_of};
-ghost use Rattle.serving.specs.Certified.{Certifies, IsVerdict};
 ghost use Rattle.serving.specs.Orders.{IsOrderOf};
-ghost use Rattle.serving.specs.Written.{IsReportOf, WritesPart};
-ghost use Rattle.serving.specs.inner.Serves.{ServesClaim};
+ghost use Rattle.serving.specs.Written.{IsReportOf};
+ghost use Rattle.serving.specs.inner.Serves.{ServesClaim, ServesVerdict};
 
 use crate::files::{Files, text_of};
 use crate::print::{REFUTED, print, print_text};
@@ -147,14 +146,8 @@ fn certify_order<A: Allocator + Copy, Q: Read + Drop, W: Write, E: Write>(
     out: &mut W,
     teller: &mut Teller<'_, E>,
 ) -> u8
-    ensures status { result ≤ 5 }
-    ensures not_refused { result ≢ 1 }
-    ensures answer { IfSome (Q.remaining report)
-        (λ found. Certifies (IsReportOf (IsOrderOf (program_of accepted.now.safe.typed.unit) claim.now.threads
-        claim.now.ticks order.now)) found result (W.contents out.old) (W.contents out.new)) }
-    ensures written { IfSome (Q.remaining report)
-        (λ found. WritesPart (IsVerdict (IsReportOf (IsOrderOf (program_of accepted.now.safe.typed.unit)
-        claim.now.threads claim.now.ticks order.now)) found) (W.contents out.old) (W.contents out.new)) }
+    ensures { ServesVerdict (IsReportOf (IsOrderOf (program_of accepted.now.safe.typed.unit) claim.now.threads
+        claim.now.ticks order.now)) ⊥ (Q.remaining report) result (W.contents out.old) (W.contents out.new) }
 {
     let ticks = u64::from(claim.ticks);
     match due_report(alloc, accepted, claim.threads, order, ticks) {
@@ -197,12 +190,8 @@ fn certify_due<A: Allocator + Copy, Q: Read + Drop, W: Write, E: Write>(
     out: &mut W,
     teller: &mut Teller<'_, E>,
 ) -> u8
-    ensures status { result ≤ 5 }
-    ensures not_refused { result ≢ 1 }
-    ensures answer { IfSome (Q.remaining report)
-        (λ found. Certifies (λ text. text ≡ due.now) found result (W.contents out.old) (W.contents out.new)) }
-    ensures written { IfSome (Q.remaining report)
-        (λ found. WritesPart (IsVerdict (λ text. text ≡ due.now) found) (W.contents out.old) (W.contents out.new)) }
+    ensures { ServesVerdict (λ text. text ≡ due.now) ⊥ (Q.remaining report) result (W.contents out.old)
+        (W.contents out.new) }
 {
     match read_all(alloc, report) {
         Ok(found) => tell_verdict(alloc, due, found.as_slice(), out, teller.err),
@@ -264,10 +253,7 @@ fn tell_verdict<A: Allocator + Copy, W: Write, E: Write>(
     out: &mut W,
     err: &mut E,
 ) -> u8
-    ensures status { result ≤ 5 }
-    ensures not_refused { result ≢ 1 }
-    ensures answer { Certifies (λ text. text ≡ due.now) found.now result (W.contents out.old) (W.contents out.new) }
-    ensures written { WritesPart (IsVerdict (λ text. text ≡ due.now) found.now) (W.contents out.old)
+    ensures { ServesVerdict (λ text. text ≡ due.now) ⊥ (Some found.now) result (W.contents out.old)
         (W.contents out.new) }
 {
     match difference(alloc, b"source", due, b"report", found) {

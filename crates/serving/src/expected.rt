@@ -1,13 +1,10 @@
 //! Whether a list of outcomes is the one that is expected.
 
-ghost use Rattle.std.specs.Prelude.{◌≡◌, ◌≢◌, ◌≤◌, IfSome};
-ghost use Rattle.serving.specs.Compared.{IsEither, Tells};
-ghost use Rattle.serving.specs.Expected.{SaysExpected, ShowsUnexpected};
+ghost use Rattle.std.specs.Prelude.{◌≡◌, Some};
 ghost use Rattle.serving.specs.Limits.{HasNoCode};
 ghost use Rattle.serving.specs.Outcomes.{IsListOfOutcomes};
-ghost use Rattle.serving.specs.Written.{WritesPart};
 ghost use Rattle.serving.specs.inner.Compared.{list_of};
-ghost use Rattle.serving.specs.inner.Serves.{ServesEither};
+ghost use Rattle.serving.specs.inner.Serves.{ServesExpected};
 
 use crate::all_outcomes::list_outcomes;
 use crate::certify::read_all;
@@ -32,8 +29,7 @@ pub(crate) fn expect<A: Allocator + Copy, Q: Read + Drop, W: Write, E: Write>(
     out: &mut W,
     teller: &mut Teller<'_, E>,
 ) -> u8
-    ensures { ServesEither (SaysExpected (IsListOfOutcomes limits.threads text.now))
-        (ShowsUnexpected (IsListOfOutcomes limits.threads text.now)) (HasNoCode text.now) (Q.remaining expected)
+    ensures { ServesExpected (IsListOfOutcomes limits.threads text.now) (HasNoCode text.now) (Q.remaining expected)
         result (W.contents out.old) (W.contents out.new) }
 {
     match list_outcomes(
@@ -60,14 +56,8 @@ fn expect_outcomes<A: Allocator + Copy, Q: Read + Drop, W: Write, E: Write>(
     out: &mut W,
     teller: &mut Teller<'_, E>,
 ) -> u8
-    ensures status { result ≤ 5 }
-    ensures not_refused { result ≢ 1 }
-    ensures answer { IfSome (Q.remaining expected)
-        (λ bytes. Tells (SaysExpected (λ t. t ≡ list_of found.now) bytes) (ShowsUnexpected (λ t. t ≡ list_of found.now) bytes)
-        result (W.contents out.old) (W.contents out.new)) }
-    ensures written { IfSome (Q.remaining expected)
-        (λ bytes. WritesPart (IsEither (SaysExpected (λ t. t ≡ list_of found.now) bytes)
-        (ShowsUnexpected (λ t. t ≡ list_of found.now) bytes)) (W.contents out.old) (W.contents out.new)) }
+    ensures { ServesExpected (λ t. t ≡ list_of found.now) ⊥ (Q.remaining expected) result (W.contents out.old)
+        (W.contents out.new) }
 {
     match list_text(
         alloc,
@@ -90,14 +80,8 @@ fn expect_list<A: Allocator + Copy, Q: Read + Drop, W: Write, E: Write>(
     out: &mut W,
     teller: &mut Teller<'_, E>,
 ) -> u8
-    ensures status { result ≤ 5 }
-    ensures not_refused { result ≢ 1 }
-    ensures answer { IfSome (Q.remaining expected)
-        (λ bytes. Tells (SaysExpected (λ t. t ≡ list.now) bytes) (ShowsUnexpected (λ t. t ≡ list.now) bytes)
-        result (W.contents out.old) (W.contents out.new)) }
-    ensures written { IfSome (Q.remaining expected)
-        (λ bytes. WritesPart (IsEither (SaysExpected (λ t. t ≡ list.now) bytes)
-        (ShowsUnexpected (λ t. t ≡ list.now) bytes)) (W.contents out.old) (W.contents out.new)) }
+    ensures { ServesExpected (λ t. t ≡ list.now) ⊥ (Q.remaining expected) result (W.contents out.old)
+        (W.contents out.new) }
 {
     match read_all(alloc, expected) {
         Ok(expected) => tell_expected(alloc, list, expected.as_slice(), out, teller.err),
@@ -113,12 +97,8 @@ fn tell_expected<A: Allocator + Copy, W: Write, E: Write>(
     out: &mut W,
     err: &mut E,
 ) -> u8
-    ensures status { result ≤ 5 }
-    ensures not_refused { result ≢ 1 }
-    ensures answer { Tells (SaysExpected (λ t. t ≡ list.now) expected.now)
-        (ShowsUnexpected (λ t. t ≡ list.now) expected.now) result (W.contents out.old) (W.contents out.new) }
-    ensures written { WritesPart (IsEither (SaysExpected (λ t. t ≡ list.now) expected.now)
-        (ShowsUnexpected (λ t. t ≡ list.now) expected.now)) (W.contents out.old) (W.contents out.new) }
+    ensures { ServesExpected (λ t. t ≡ list.now) ⊥ (Some expected.now) result (W.contents out.old)
+        (W.contents out.new) }
 {
     match difference(alloc, b"expected", expected, b"found", list) {
         Ok(None) => print_text(b"as expected\n", out, err),

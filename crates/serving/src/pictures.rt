@@ -1,13 +1,13 @@
 //! `txc replay --picture`: the picture of a replay.
 
-ghost use Rattle.std.specs.Prelude.{◌≡◌, ◌≢◌, ◌≤◌, ◌⊎◌, IfSome, None};
+ghost use Rattle.std.specs.Prelude.{◌≡◌, ◌⊎◌, IfSome, None};
 ghost use Rattle.replay.specs.Replays.{simulation_after, timeline_of};
 ghost use Rattle.report.specs.Views.{printed_of};
 ghost use Rattle.picture.specs.Replayed.{IsDrawn};
 ghost use Rattle.serving.specs.Pictures.{PrintsPicture, ReplaysDrawn};
 ghost use Rattle.serving.specs.Limits.{HasNoCode};
 ghost use Rattle.serving.specs.Written.{IsReplayPicture, WritesPart};
-ghost use Rattle.serving.specs.inner.Serves.{ServesText};
+ghost use Rattle.serving.specs.inner.Serves.{Serves, ServesText};
 
 use crate::program::{Compiled, unit_of};
 use crate::replays::{Replayed, print_for_replay, replay_text};
@@ -85,17 +85,14 @@ fn print_picture<A: Allocator + Copy, W: Write, E: Write>(
     out: &mut W,
     teller: &mut Teller<'_, E>,
 ) -> u8
-    ensures status { result ≤ 4 }
     ensures whole { (result ≡ 0) ⊎ (result ≡ 3) → replayed.now.stop ≡ None }
-    ensures picture { PrintsPicture
+    ensures prints { Serves 4 (PrintsPicture
         (λ svg shown. IsDrawn text.now from compiled.now.code
         (timeline_of (simulation_after compiled.now.code threads replayed.now.made.items))
-        svg × (shown ≡ printed_of replayed.now.printed)) result (W.contents out.old) (W.contents out.new) }
-    ensures written { WritesPart
+        svg × (shown ≡ printed_of replayed.now.printed))) ⊥ (WritesPart
         (λ written. IsDrawn text.now from compiled.now.code
         (timeline_of (simulation_after compiled.now.code threads replayed.now.made.items))
-        written) (W.contents out.old) (W.contents out.new) }
-    ensures not_refused { result ≢ 1 }
+        written)) result (W.contents out.old) (W.contents out.new) }
 {
     let file = teller.detail.file;
     match picture_of(alloc, file, text, compiled, threads, from, replayed) {

@@ -1,15 +1,15 @@
 //! Printing on standard output, and the exit statuses.
 
-ghost use Rattle.std.specs.Prelude.{◌≡◌, OnOk, ◌≢◌, ◌≤◌, ◌⊎◌, if◌then◌else◌, map};
+ghost use Rattle.std.specs.Prelude.{◌≡◌, OnOk, ◌⊎◌, if◌then◌else◌, map};
 ghost use Rattle.std.specs.List.{list_any};
 ghost use Rattle.report.specs.Pieces.{seen_of};
 ghost use Rattle.report.specs.Views.{printed_of, shown_of};
 ghost use Rattle.serving.specs.Reports.{exit_status, is_spent, is_stopped, is_trapped};
 ghost use Rattle.std.specs.Io.KnownBytes.{Appends};
-ghost use Rattle.serving.specs.Written.{AppendsBeginning, WritesPart};
+ghost use Rattle.serving.specs.Written.{AppendsBeginning};
 ghost use Rattle.report.specs.Pieces.{joined};
-ghost use Rattle.report.specs.Report.{report_text};
-ghost use Rattle.serving.specs.inner.Printing.{PrintsShown, plain_report};
+ghost use Rattle.serving.specs.inner.Printing.{plain_report};
+ghost use Rattle.serving.specs.inner.Serves.{PrintsReportOf};
 
 use crate::tell::{cannot_write, out_of_memory};
 use report::{End, Piece, Printed, Shown, ThreadSeen, ThreadShown, pieces_of, report_pieces};
@@ -184,11 +184,7 @@ pub(crate) fn print_report<A: Allocator + Copy, W: Write, E: Write>(
     out: &mut W,
     err: &mut E,
 ) -> u8
-    ensures status { result ≤ 4 }
-    ensures report { PrintsShown (printed_of printed.now) result (W.contents out.old) (W.contents out.new) }
-    ensures written { WritesPart (λ written. written ≡ report_text (printed_of printed.now)) (W.contents out.old)
-        (W.contents out.new) }
-    ensures not_refused { result ≢ 1 }
+    ensures { PrintsReportOf (printed_of printed.now) result (W.contents out.old) (W.contents out.new) }
 {
     match pieces_of(alloc, printed) {
         Ok(pieces) => match print_pieces(pieces.as_slice(), out) {
@@ -209,13 +205,8 @@ pub(crate) fn print_seen<A: Allocator + Copy, W: Write, E: Write>(
     out: &mut W,
     err: &mut E,
 ) -> u8
-    ensures status { result ≤ 4 }
-    ensures report { PrintsShown (plain_report (map seen_of threads.now) (map shown_of globals.now) holder) result
+    ensures { PrintsReportOf (plain_report (map seen_of threads.now) (map shown_of globals.now) holder) result
         (W.contents out.old) (W.contents out.new) }
-    ensures written { WritesPart (λ written. written
-        ≡ report_text (plain_report (map seen_of threads.now) (map shown_of globals.now) holder)) (W.contents out.old)
-        (W.contents out.new) }
-    ensures not_refused { result ≢ 1 }
 {
     match report_pieces(alloc, &None, threads, globals, holder) {
         Ok(pieces) => match print_pieces(pieces.as_slice(), out) {

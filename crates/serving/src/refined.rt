@@ -1,20 +1,17 @@
 //! Whether each outcome of one program is one of another's.
 
 ghost use Rattle.std.specs.Prelude.{◌≡◌, ◌≢◌, ◌≤◌, ◌⊎◌, [], IfErr, IfOk, IfSome, is_some, length, map, true, Some};
-ghost use Rattle.std.specs.Io.KnownBytes.{Appends};
 ghost use Rattle.syntax.specs.Views.{program_of};
 ghost use Rattle.refinements.specs.Told as spec;
 ghost use Rattle.report.specs.Views.{reported_of};
 ghost use Rattle.report.specs.declared.outcome_list.WalkEnd.TheVariants.{Whole};
 ghost use Rattle.serving.specs.Codes.{IsCodeOf};
-ghost use Rattle.serving.specs.Compared.{IsEither, Tells};
 ghost use Rattle.serving.specs.Limits.{HasNoCode};
 ghost use Rattle.serving.specs.Outcomes.{AreOutcomesOf};
 ghost use Rattle.serving.specs.Refusals.{span_of_source};
 ghost use Rattle.serving.specs.Refines.{SaysRefined, SaysRefines, ShowsBeyond, ShowsOther};
-ghost use Rattle.serving.specs.Written.{WritesPart};
 ghost use Rattle.serving.specs.inner.Compared.{SaysShown, ShowsUnshown};
-ghost use Rattle.serving.specs.inner.Serves.{ServesEither};
+ghost use Rattle.serving.specs.inner.Serves.{PrintsEither, ServesEither};
 
 use crate::compared::Limits;
 use crate::files::text_of;
@@ -104,16 +101,10 @@ fn refine_programs<A: Allocator + Copy, W: Write, E: Write>(
 ) -> u8
     requires code { IsCodeOf (program_of this.now.accepted.safe.typed.unit) this.now.code }
     requires other_code { IsCodeOf (program_of that.now.accepted.safe.typed.unit) that.now.code }
-    ensures status { result ≤ 5 }
-    ensures not_refused { result ≢ 1 }
-    ensures answer { Tells (SaysRefines name.now limits.threads (program_of this.now.accepted.safe.typed.unit)
+    ensures { PrintsEither (SaysRefines name.now limits.threads (program_of this.now.accepted.safe.typed.unit)
         (program_of that.now.accepted.safe.typed.unit)) (ShowsBeyond name.now limits.threads
         (program_of this.now.accepted.safe.typed.unit) (program_of that.now.accepted.safe.typed.unit)) result
         (W.contents out.old) (W.contents out.new) }
-    ensures written { WritesPart (IsEither (SaysRefines name.now limits.threads
-        (program_of this.now.accepted.safe.typed.unit) (program_of that.now.accepted.safe.typed.unit))
-        (ShowsBeyond name.now limits.threads (program_of this.now.accepted.safe.typed.unit)
-        (program_of that.now.accepted.safe.typed.unit))) (W.contents out.old) (W.contents out.new) }
 {
     match outcomes_found(alloc, limits, this, teller) {
         Ok(found) => match outcomes_found(alloc, limits, that, teller) {
@@ -168,17 +159,10 @@ fn tell_found<A: Allocator + Copy, W: Write, E: Write>(
     out: &mut W,
     teller: &mut Teller<'_, E>,
 ) -> u8
-    ensures status { result ≤ 5 }
-    ensures not_refused { result ≢ 1 }
-    ensures answer { Tells (SaysShown name.now found.now.end (map reported_of found.now.outcomes.items)
+    ensures { PrintsEither (SaysShown name.now found.now.end (map reported_of found.now.outcomes.items)
         (map reported_of found.now.stuck.items) others.now.end (map reported_of others.now.outcomes.items))
         (ShowsUnshown name.now found.now.end (map reported_of found.now.outcomes.items)
         (map reported_of found.now.stuck.items) others.now.end (map reported_of others.now.outcomes.items)) result
-        (W.contents out.old) (W.contents out.new) }
-    ensures written { WritesPart (IsEither (SaysShown name.now found.now.end (map reported_of found.now.outcomes.items)
-        (map reported_of found.now.stuck.items) others.now.end (map reported_of others.now.outcomes.items))
-        (ShowsUnshown name.now found.now.end (map reported_of found.now.outcomes.items)
-        (map reported_of found.now.stuck.items) others.now.end (map reported_of others.now.outcomes.items)))
         (W.contents out.old) (W.contents out.new) }
 {
     if !is_whole(found) {
@@ -202,10 +186,7 @@ fn tell_beyond<A: Allocator + Copy, W: Write, E: Write>(
     out: &mut W,
     err: &mut E,
 ) -> u8
-    ensures status { (result ≡ 5) ⊎ (result ≡ 4) }
-    ensures shown { result ≡ 5 → Appends (W.contents out.old) (W.contents out.new)
-        (spec.beyond_text name.now (reported_of one.now)) }
-    ensures written { WritesPart (λ written. written ≡ spec.beyond_text name.now (reported_of one.now))
+    ensures { PrintsEither (λ written. ⊥) (λ written. written ≡ spec.beyond_text name.now (reported_of one.now)) result
         (W.contents out.old) (W.contents out.new) }
 {
     match beyond_text(alloc, name, one) {
@@ -226,13 +207,9 @@ fn tell_refined<A: Allocator + Copy, W: Write, E: Write>(
     out: &mut W,
     teller: &mut Teller<'_, E>,
 ) -> u8
-    ensures status { (result ≡ 0) ⊎ (result ≡ 4) }
-    ensures said { result ≡ 0 → Appends (W.contents out.old) (W.contents out.new)
-        (spec.refined_text name.now (length found.now.outcomes.items) (length others.now.outcomes.items)) }
-    ensures none_stuck { result ≡ 0 → map reported_of found.now.stuck.items ≡ [] }
-    ensures written { WritesPart
+    ensures { PrintsEither
         (λ written. (map reported_of found.now.stuck.items ≡ []) × (written ≡ spec.refined_text name.now
-        (length found.now.outcomes.items) (length others.now.outcomes.items)))
+        (length found.now.outcomes.items) (length others.now.outcomes.items))) (λ written. ⊥) result
         (W.contents out.old) (W.contents out.new) }
 {
     if !found.stuck.is_empty() {

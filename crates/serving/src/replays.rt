@@ -1,6 +1,6 @@
 //! `txc replay`: steps of a source's threads, by a schedule, a seed or an order; what is shown of each step.
 
-ghost use Rattle.std.specs.Prelude.{◌≡◌, ◌≢◌, ◌≤◌, ◌⊎◌, ◌++◌, IfErr, IfOk, IfSome, None, ◌<◌, ◌↔◌, Err, map};
+ghost use Rattle.std.specs.Prelude.{◌≡◌, ◌⊎◌, ◌++◌, IfErr, IfOk, IfSome, None, ◌<◌, ◌↔◌, Err, map};
 ghost use Rattle.std.specs.Prelude.{string_bytes};
 ghost use Rattle.std.specs.Io.KnownBytes.{Appends};
 ghost use Rattle.replay.specs.Replays.{simulation_after, timeline_of};
@@ -14,14 +14,13 @@ ghost use Rattle.serving.specs.Replays.{IsReplayOfText, PrintsOrder, PrintsSched
 ghost use Rattle.serving.specs.Replays.{ReplaysShown, behind_events, lines_of_seed, IsReplayOf, thread_found};
 ghost use Rattle.serving.specs.Reports.{PrintsReport, exit_status};
 ghost use Rattle.serving.specs.Written.{AppendsBeginning, IsOrderSchedule, IsReplayReport, IsReplayTimeline};
-ghost use Rattle.serving.specs.Written.{IsSeedSchedule, WritesPart};
-ghost use Rattle.serving.specs.inner.Printing.{PrintsBehind, PrintsShown};
+ghost use Rattle.serving.specs.Written.{IsSeedSchedule};
 ghost use Rattle.syntax.specs.Views.{program_of};
 ghost use Rattle.world.specs.Reports.{threads_of};
 ghost use Rattle.serving.specs.Codes.{IsCodeOf};
 ghost use Rattle.serving.specs.Replays as spec;
 ghost use Rattle.serving.specs.inner.Replayed.{report_shown};
-ghost use Rattle.serving.specs.inner.Serves.{ServesText};
+ghost use Rattle.serving.specs.inner.Serves.{PrintsReportOf, PrintsTimelineOf, Serves, ServesText};
 
 use crate::ends::{Stood, all_stood_in_code, tell_ends};
 use crate::files::{lines_in_order, lines_of, lines_picked};
@@ -188,12 +187,10 @@ pub(crate) fn print_for_replay<A: Allocator, W: Write, E: Write>(
     out: &mut W,
     teller: &mut Teller<'_, E>,
 ) -> u8
-    ensures status { result ≤ 4 }
     ensures whole { (result ≡ 0) ⊎ (result ≡ 3) → replayed.now.stop ≡ None }
-    ensures printed { (result ≡ 0) ⊎ (result ≡ 3) → (result ≡ exit_status (printed_of replayed.now.printed))
-        × Appends (W.contents out.old) (W.contents out.new) text.now }
-    ensures written { AppendsBeginning (W.contents out.old) (W.contents out.new) text.now }
-    ensures not_refused { result ≢ 1 }
+    ensures prints { Serves 4
+        (λ s o n. (s ≡ 0) ⊎ (s ≡ 3) → (s ≡ exit_status (printed_of replayed.now.printed)) × Appends o n text.now) ⊥
+        (λ o n. AppendsBeginning o n text.now) result (W.contents out.old) (W.contents out.new) }
 {
     match print(text, out) {
         Ok(()) => match replayed.stop {
@@ -211,12 +208,8 @@ fn print_replay<A: Allocator + Copy, W: Write, E: Write>(
     out: &mut W,
     teller: &mut Teller<'_, E>,
 ) -> u8
-    ensures status { result ≤ 4 }
     ensures whole { (result ≡ 0) ⊎ (result ≡ 3) → replayed.now.stop ≡ None }
-    ensures report { PrintsShown (printed_of replayed.now.printed) result (W.contents out.old) (W.contents out.new) }
-    ensures written { WritesPart (λ written. written ≡ report_text (printed_of replayed.now.printed))
-        (W.contents out.old) (W.contents out.new) }
-    ensures not_refused { result ≢ 1 }
+    ensures prints { PrintsReportOf (printed_of replayed.now.printed) result (W.contents out.old) (W.contents out.new) }
 {
     match report_text(alloc, &replayed.printed) {
         Ok(report) => print_for_replay(report.as_slice(), replayed, out, teller),
@@ -256,16 +249,10 @@ fn print_timeline<A: Allocator + Copy, W: Write, E: Write>(
     out: &mut W,
     teller: &mut Teller<'_, E>,
 ) -> u8
-    ensures status { result ≤ 4 }
     ensures whole { (result ≡ 0) ⊎ (result ≡ 3) → replayed.now.stop ≡ None }
-    ensures report { PrintsBehind
+    ensures prints { PrintsTimelineOf
         (timeline_text code.now (timeline_of (simulation_after code.now threads replayed.now.made.items)))
         (printed_of replayed.now.printed) result (W.contents out.old) (W.contents out.new) }
-    ensures written { WritesPart
-        (λ written. written ≡ timeline_text code.now
-        (timeline_of (simulation_after code.now threads replayed.now.made.items))
-        ++ report_text (printed_of replayed.now.printed)) (W.contents out.old) (W.contents out.new) }
-    ensures not_refused { result ≢ 1 }
 {
     match timeline_and_report(alloc, code, threads, replayed) {
         Some(text) => print_for_replay(text.as_slice(), replayed, out, teller),

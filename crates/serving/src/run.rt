@@ -1,21 +1,19 @@
 //! `txc run`: all threads of a source at once.
 
-ghost use Rattle.std.specs.Prelude.{◌≡◌, ◌≢◌, ◌≤◌, IfOk, IfErr, ◌==◌, map, option_map};
+ghost use Rattle.std.specs.Prelude.{◌≡◌, IfOk, IfErr, ◌==◌, map, option_map};
 ghost use Rattle.serving.specs.Checks.{Accepts};
 ghost use Rattle.serving.specs.Orders.{RunsInSomeOrder};
 ghost use Rattle.serving.specs.Limits.{HasNoCode};
 ghost use Rattle.serving.specs.Reports.{PrintsReport};
 ghost use Rattle.serving.specs.Runs.{RunsConcurrently, IsConcurrentRun, globals_left, held_by, stopped_of};
 ghost use Rattle.serving.specs.Runs.{threads_of_run};
-ghost use Rattle.serving.specs.Written.{IsReportOf, WritesPart};
+ghost use Rattle.serving.specs.Written.{IsReportOf};
 ghost use Rattle.syntax.specs.Views.{program_of};
 ghost use Rattle.report.specs.Pieces.{seen_of};
-ghost use Rattle.report.specs.Report.{report_text};
 ghost use Rattle.report.specs.Views.{shown_of};
 ghost use Rattle.workers.specs.Driving.{IsRunRefused};
 ghost use Rattle.serving.specs.Codes.{IsCodeOf};
-ghost use Rattle.serving.specs.inner.Printing.{PrintsShown};
-ghost use Rattle.serving.specs.inner.Serves.{ServesText};
+ghost use Rattle.serving.specs.inner.Serves.{PrintsReportOf, ServesText};
 ghost use Rattle.serving.specs.inner.Threads.{IsThreadsFault, left_shown};
 ghost use Rattle.std.specs.List.{find};
 ghost use Rattle.std.specs.Option.{option_and_then};
@@ -99,11 +97,7 @@ fn print_left<W: Write, E: Write>(
     out: &mut W,
     teller: &mut Teller<'_, E>,
 ) -> u8
-    ensures status { result ≤ 4 }
-    ensures report { PrintsShown (left_shown threads left.now) result (W.contents out.old) (W.contents out.new) }
-    ensures written { WritesPart (λ written. written ≡ report_text (left_shown threads left.now)) (W.contents out.old)
-        (W.contents out.new) }
-    ensures not_refused { result ≢ 1 }
+    ensures { PrintsReportOf (left_shown threads left.now) result (W.contents out.old) (W.contents out.new) }
 {
     match threads_seen(alloc, threads, &left.ran) {
         Ok(seen) => {

@@ -1,17 +1,25 @@
 -- What the exit status of what is asked says, and what is written whatever it is.
-use Rattle.std.specs.Prelude.{◌≡◌, ◌≤◌, ℕ, List, Option, IfSome}
+use Rattle.std.specs.Prelude.{◌≡◌, ◌≤◌, ◌++◌, ℕ, List, Option, IfSome}
 use Rattle.command.specs.declared.request.Claim.{Claim}
 use Rattle.command.specs.declared.request.Comparison.{Comparison}
 use Rattle.command.specs.declared.request.Questions.{Questions}
 use Rattle.command.specs.declared.request.Task.{Task}
+use Rattle.report.specs.OutcomeList.{ReportedOrder}
+use Rattle.report.specs.Printed.{Printed}
+use Rattle.report.specs.Properties.{Property}
+use Rattle.report.specs.Report.{report_text}
+use Rattle.report.specs.declared.outcome_list.WalkEnd.{WalkEnd}
 use Rattle.serving.specs.Answers.{Answers}
-use Rattle.serving.specs.Certified.{CertifiesReport, WritesVerdict}
-use Rattle.serving.specs.Compared.{ComparesOutcomes, HaveNoCode, IsEither, Tells, WritesComparison}
+use Rattle.serving.specs.Certified.{CertifiesReport, SaysSo, ShowsDifference, WritesVerdict}
+use Rattle.serving.specs.Compared.{ComparesOutcomes, HaveNoCode, WritesComparison}
+use Rattle.serving.specs.Expected.{SaysExpected, ShowsUnexpected}
 use Rattle.serving.specs.Limits.{HasNoCode}
-use Rattle.serving.specs.Properties.{AnswersQuestions, IsToldOf}
+use Rattle.serving.specs.Properties.{AnswersQuestions, IsTextOfProperties, IsToldOf, TellsProperties}
 use Rattle.serving.specs.Refusals.{IsRefused}
 use Rattle.serving.specs.Refused.{IsRefusedFor}
+use Rattle.serving.specs.Verdicts.{IsEither, Tells}
 use Rattle.serving.specs.Written.{IsAskedFor, WritesPart}
+use Rattle.serving.specs.inner.Printing.{PrintsBehind, PrintsShown}
 
 -- The status is at most so much; it says this of what was printed: the bytes that the writer had, if they are known, and
 -- those that it has then; with 1 a text is refused, and nothing is printed; and this is written whatever it is.
@@ -70,3 +78,36 @@ abbrev pub ServesEither : (IsSo IsNot : List ℕ → List ℕ → Type 0) → (R
 ServesEither IsSo IsNot Refuses bytes status old new =
     Serves 5 (λ s o n. IfSome bytes (λ other. Tells (IsSo other) (IsNot other) s o n)) Refuses
     (λ o n. IfSome bytes (λ other. WritesPart (IsEither (IsSo other) (IsNot other)) o n)) status old new
+
+-- whether they are a list of which this is so
+abbrev pub ServesExpected : (IsList : List ℕ → Type 0) → (Refuses : Type 0) → (bytes : Option (List ℕ)) →
+    (status : ℕ) → (old new : Option (List ℕ)) → Type 0
+ServesExpected IsList Refuses bytes status old new =
+    ServesEither (SaysExpected IsList) (ShowsUnexpected IsList) Refuses bytes status old new
+
+-- whether they are a report that is due
+abbrev pub ServesVerdict : (IsDue : List ℕ → Type 0) → (Refuses : Type 0) → (bytes : Option (List ℕ)) →
+    (status : ℕ) → (old new : Option (List ℕ)) → Type 0
+ServesVerdict IsDue Refuses bytes status old new =
+    ServesEither (SaysSo IsDue) (ShowsDifference IsDue) Refuses bytes status old new
+
+-- a report is printed: no text is left to be refused
+abbrev pub PrintsReportOf : Printed → (status : ℕ) → (old new : Option (List ℕ)) → Type 0
+PrintsReportOf shown status old new =
+    Serves 4 (PrintsShown shown) ⊥ (WritesPart (λ written. written ≡ report_text shown)) status old new
+
+-- likewise, behind these lines
+abbrev pub PrintsTimelineOf : (lines : List ℕ) → Printed → (status : ℕ) → (old new : Option (List ℕ)) → Type 0
+PrintsTimelineOf lines shown status old new = Serves 4 (PrintsBehind lines shown) ⊥
+    (WritesPart (λ written. written ≡ lines ++ report_text shown)) status old new
+
+-- likewise, that something is so or not
+abbrev pub PrintsEither : (IsSo IsNot : List ℕ → Type 0) → (status : ℕ) → (old new : Option (List ℕ)) → Type 0
+PrintsEither IsSo IsNot status old new =
+    Serves 5 (Tells IsSo IsNot) ⊥ (WritesPart (IsEither IsSo IsNot)) status old new
+
+-- likewise, properties that are found
+abbrev pub PrintsProperties : (AreFound : WalkEnd → List Property → List ReportedOrder → Type 0) → (status : ℕ) →
+    (old new : Option (List ℕ)) → Type 0
+PrintsProperties AreFound status old new =
+    Serves 5 (TellsProperties AreFound) ⊥ (WritesPart (IsTextOfProperties AreFound)) status old new

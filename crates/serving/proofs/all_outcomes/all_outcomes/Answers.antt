@@ -5,23 +5,19 @@ use Rattle.report.specs.Views.{reported_of}
 use Rattle.serving.specs.Outcomes.{AreOutcomesOfText}
 use Rattle.serving.proofs.ListedOutcomes.{not_stopped}
 use Rattle.serving.proofs.Parts.{part_so}
+use Rattle.serving.proofs.Printing.{serves_so}
 use Rattle.serving.proofs.all_outcomes.all_outcomes.Goals as goal
 
 pub returns-in-Ok : goal.returns-in-Ok
 returns-in-Ok g c =
     let found = c.in-Ok.found in
     let outcomes = map reported_of found.outcomes.items in
-    record {
-      within = c.print_outcomes-status.ensures.status;
-      answers = λ status.
-          let goes = not_stopped c.print_outcomes-status.result status in
-          let whole = c.print_outcomes-status.ensures.whole goes in
-          let are = subst (λ s. AreOutcomesOfText c.args.threads c.args.text.now found.end outcomes s) whole.1 c.in-Ok.ensures.are in
-          let all = subst (λ e. AreOutcomesOfText c.args.threads c.args.text.now e outcomes []) whole.0 are in
-          let shown = subst (λ s. Appends (g.W.Write.contents c.args.out.now) (g.W.Write.contents c.print_outcomes-status.new.out) (list_text outcomes s found.states found.end)) whole.1 (c.print_outcomes-status.ensures.printed goes) in
-          let printed = subst (λ e. Appends (g.W.Write.contents c.args.out.now) (g.W.Write.contents c.print_outcomes-status.new.out) (list_text outcomes [] found.states e)) whole.0 shown in
-          (outcomes, found.states, all, whole.2, printed);
-      refused = λ one. absurd (c.print_outcomes-status.ensures.not_refused one);
-      written = part_so _ _ _ _ (λ text e. (outcomes, map reported_of found.stuck.items, found.states, found.end, c.in-Ok.ensures.are, e)) c.print_outcomes-status.ensures.written;
-      untouched = λ one. absurd (c.print_outcomes-status.ensures.not_refused one);
-    }
+    serves_so c.print_outcomes-status.ensures
+    (λ says status.
+    let printed = says (not_stopped c.print_outcomes-status.result status) in
+    let are = subst (λ s. AreOutcomesOfText c.args.threads c.args.text.now found.end outcomes s) printed.1 c.in-Ok.ensures.are in
+    let all = subst (λ e. AreOutcomesOfText c.args.threads c.args.text.now e outcomes []) printed.0 are in
+    let shown = subst (λ s. Appends (g.W.Write.contents c.args.out.now) (g.W.Write.contents c.print_outcomes-status.new.out) (list_text outcomes s found.states found.end)) printed.1 printed.3 in
+    let text = subst (λ e. Appends (g.W.Write.contents c.args.out.now) (g.W.Write.contents c.print_outcomes-status.new.out) (list_text outcomes [] found.states e)) printed.0 shown in
+    (outcomes, found.states, all, printed.2, text))
+    (λ part. part_so _ _ _ _ (λ text e. (outcomes, map reported_of found.stuck.items, found.states, found.end, c.in-Ok.ensures.are, e)) part)

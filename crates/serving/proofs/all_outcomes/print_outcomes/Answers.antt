@@ -1,20 +1,33 @@
-use Rattle.std.proofs.Common.{◌∙◌, ap₂, inr, map, subst}
+use Rattle.std.proofs.Common.{◌∙◌, ap₂, arith, inr, map, subst}
 use Rattle.std.specs.Io.KnownBytes.{Appends}
 use Rattle.report.specs.OutcomeList.{list_text}
 use Rattle.report.specs.Views.{reported_of}
 use Rattle.serving.proofs.all_outcomes.print_outcomes.Goals as goal
 
-pub returns-in-Ok-print-clause-printed : goal.returns-in-Ok-print-clause-printed
-returns-in-Ok-print-clause-printed g c = λ goes.
-    let whole = c.as_slice-in-Ok.ensures.value ∙ c.in-Ok.ensures ∙ ap₂ (λ os ss. list_text (map reported_of os) (map reported_of ss) c.args.found.now.states c.args.found.now.end) c.as_slice.ensures.value c.as_slice-2.ensures.value in
-    subst (Appends (g.W.Write.contents c.args.out.now) (g.W.Write.contents c.print.new.out)) whole c.in-Ok-print.ensures.whole
+pub returns-in-Ok-print : goal.returns-in-Ok-print
+returns-in-Ok-print g c =
+    let text = c.as_slice-in-Ok.ensures.value ∙ c.in-Ok.ensures ∙ ap₂ (λ os ss. list_text (map reported_of os) (map reported_of ss) c.args.found.now.states c.args.found.now.end) c.as_slice.ensures.value c.as_slice-2.ensures.value in
+    record {
+      within = c.status_of_outcomes.ensures.within;
+      answers = λ goes. (
+        c.status_of_outcomes.ensures.whole goes,
+        c.status_of_outcomes.ensures.stuck goes,
+        c.status_of_outcomes.ensures.status goes,
+        subst (Appends (g.W.Write.contents c.args.out.now) (g.W.Write.contents c.print.new.out)) text c.in-Ok-print.ensures.whole,
+      );
+      refused = c.status_of_outcomes.ensures.not_refused;
+      written = inr (c.as_slice-in-Ok.result.now, text, c.in-Ok-print.ensures.part);
+      untouched = λ one. absurd (c.status_of_outcomes.ensures.not_refused one);
+    }
 
-pub returns-in-Ok-print-clause-written : goal.returns-in-Ok-print-clause-written
-returns-in-Ok-print-clause-written g c =
-    let whole = c.as_slice-in-Ok.ensures.value ∙ c.in-Ok.ensures ∙ ap₂ (λ os ss. list_text (map reported_of os) (map reported_of ss) c.args.found.now.states c.args.found.now.end) c.as_slice.ensures.value c.as_slice-2.ensures.value in
-    inr (c.as_slice-in-Ok.result.now, whole, c.in-Ok-print.ensures.part)
-
-pub returns-in-Ok-clause-written : goal.returns-in-Ok-clause-written
-returns-in-Ok-clause-written g c =
-    let whole = c.as_slice-in-Ok.ensures.value ∙ c.in-Ok.ensures ∙ ap₂ (λ os ss. list_text (map reported_of os) (map reported_of ss) c.args.found.now.states c.args.found.now.end) c.as_slice.ensures.value c.as_slice-2.ensures.value in
-    inr (c.as_slice-in-Ok.result.now, whole, c.in-Err-print.ensures.part)
+pub returns-in-Ok : goal.returns-in-Ok
+returns-in-Ok g c =
+    let text = c.as_slice-in-Ok.ensures.value ∙ c.in-Ok.ensures ∙ ap₂ (λ os ss. list_text (map reported_of os) (map reported_of ss) c.args.found.now.states c.args.found.now.end) c.as_slice.ensures.value c.as_slice-2.ensures.value in
+    let four = c.cannot_write.ensures in
+    record {
+      within = omega (arith, four);
+      answers = λ goes. absurd (goes four);
+      refused = λ one. absurd (omega (arith, four, one));
+      written = inr (c.as_slice-in-Ok.result.now, text, c.in-Err-print.ensures.part);
+      untouched = λ one. absurd (omega (arith, four, one));
+    }

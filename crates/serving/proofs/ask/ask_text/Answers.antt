@@ -1,16 +1,11 @@
 use Rattle.std.proofs.Common.{arith, inl, refl}
 use Rattle.parse.specs.Faults.{source_of}
-use Rattle.serving.proofs.Answering.{answers_text, tells_nothing, unaskable_text, writes_text}
+use Rattle.serving.proofs.Answering.{serves_text, tells_nothing, unaskable_text}
 use Rattle.serving.proofs.ask.ask_text.Goals as goal
 
 pub returns-in-Ok-clause-serves : goal.returns-in-Ok-clause-serves
-returns-in-Ok-clause-serves g c = record {
-  within = c.ask_program.ensures.status;
-  answers = answers_text c.args.questions.now c.args.text.now (source_of c.in-Ok.compiled.accepted.safe.typed.unit) c.in-Ok.ensures.source c.in-Ok.compiled.accepted.accepted c.ask_program.result _ _ c.ask_program.ensures.answer;
-  refused = λ one. absurd (c.ask_program.ensures.not_refused one);
-  written = writes_text c.args.questions.now c.args.text.now (source_of c.in-Ok.compiled.accepted.safe.typed.unit) c.in-Ok.ensures.source c.in-Ok.compiled.accepted.accepted _ _ c.ask_program.ensures.written;
-  untouched = λ one. absurd (c.ask_program.ensures.not_refused one);
-}
+returns-in-Ok-clause-serves g c =
+    serves_text c.args.questions.now c.args.text.now (source_of c.in-Ok.compiled.accepted.safe.typed.unit) c.in-Ok.ensures.source c.in-Ok.compiled.accepted.accepted c.ask_program.result _ _ c.ask_program.ensures.prints
 
 pub returns-in-Ok-clause-unaskable : goal.returns-in-Ok-clause-unaskable
 returns-in-Ok-clause-unaskable g c = λ two.

@@ -2,19 +2,13 @@ use Rattle.std.proofs.Common.{arith, refl, subst, sym}
 use Rattle.std.specs.Prelude.{IfSome}
 use Rattle.command.specs.Asked.{IsListedOrder}
 use Rattle.parse.specs.Faults.{source_of}
-use Rattle.serving.proofs.Verdicts.{claim_certified, claim_written, no_claim_verdict, nothing_claimed}
+use Rattle.serving.proofs.Certifying.{claim_served, no_claim_verdict, nothing_claimed}
 use Rattle.serving.proofs.certify.certify_text.Goals as goal
 
 pub returns-in-Ok-order_of : goal.returns-in-Ok-order_of
 returns-in-Ok-order_of g c =
     let lists = subst (λ o. IfSome (g.S.Read.remaining c.args.order) (λ bytes. IsListedOrder bytes o)) (sym c.as_slice.ensures.value) c.in-Ok-order_of.ensures.ok in
-    record {
-      within = c.certify_order.ensures.status;
-      answers = claim_certified c.args.claim.now (g.S.Read.remaining c.args.order) (g.Q.Read.remaining c.args.report) c.args.text.now c.as_slice.result.now (source_of c.in-Ok.accepted.safe.typed.unit) c.certify_order.result _ _ lists c.in-Ok.ensures.ok c.in-Ok.accepted.accepted c.certify_order.ensures.answer;
-      refused = λ one. absurd (c.certify_order.ensures.not_refused one);
-      written = claim_written c.args.claim.now (g.S.Read.remaining c.args.order) (g.Q.Read.remaining c.args.report) c.args.text.now c.as_slice.result.now (source_of c.in-Ok.accepted.safe.typed.unit) _ _ lists c.in-Ok.ensures.ok c.in-Ok.accepted.accepted c.certify_order.ensures.written;
-      untouched = λ one. absurd (c.certify_order.ensures.not_refused one);
-    }
+    claim_served c.args.claim.now (g.S.Read.remaining c.args.order) (g.Q.Read.remaining c.args.report) c.args.text.now c.as_slice.result.now (source_of c.in-Ok.accepted.safe.typed.unit) c.certify_order.result _ _ lists c.in-Ok.ensures.ok c.in-Ok.accepted.accepted c.certify_order.ensures
 
 pub returns-in-Err : goal.returns-in-Err
 returns-in-Err g c = record {

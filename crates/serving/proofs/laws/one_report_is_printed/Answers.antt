@@ -1,4 +1,4 @@
-use Rattle.serving.proofs.Verdicts.{one_report}
+use Rattle.serving.proofs.Certifying.{one_report}
 use Rattle.serving.proofs.laws.one_report_is_printed.Goals as goal
 
 pub returns : goal.returns

@@ -1,4 +1,5 @@
 use Rattle.serving.proofs.Parts.{part_so}
+use Rattle.serving.proofs.Printing.{serves_so}
 use Rattle.report.specs.Views.{printed_of}
 use Rattle.serving.proofs.ReplayRuns.{replays_drawn}
 use Rattle.std.proofs.Common.{◌≡◌, subst, ℕ, List}
@@ -18,13 +19,9 @@ returns-in-Ok g c =
       shown = shown;
       replay = c.in-Ok.ensures.ok;
     } in
-    record {
-      within = c.print_picture.ensures.status;
-      answers = λ status.
-          let printed = c.print_picture.ensures.picture status in
-          let drawn = replays_drawn c.args.threads c.args.from c.args.steps.now _ c.args.text.now c.in-Ok.compiled.code c.in-Ok.replayed.made.items c.in-Ok.replayed.stop shown printed.0 (c.print_picture.ensures.whole status) c.in-Ok.ensures.ok printed.2.0 in
-          (printed.0, shown, drawn, subst (λ s. c.print_picture.result ≡ exit_status s) printed.2.1 printed.3, printed.4);
-      refused = λ one. absurd (c.print_picture.ensures.not_refused one);
-      written = part_so (λ (t : List ℕ). IsDrawn c.args.text.now c.args.from c.in-Ok.compiled.code (timeline_of (simulation_after c.in-Ok.compiled.code c.args.threads c.in-Ok.replayed.made.items)) t) (IsReplayPicture c.args.threads c.args.from c.args.steps.now (g.S.Read.remaining c.args.schedule) c.args.text.now) (g.W.Write.contents c.args.out.now) (g.W.Write.contents c.print_picture.new.out) (λ t e. (r, e)) c.print_picture.ensures.written;
-      untouched = λ one. absurd (c.print_picture.ensures.not_refused one);
-    }
+    serves_so c.print_picture.ensures.prints
+    (λ says status.
+    let printed = says status in
+    let drawn = replays_drawn c.args.threads c.args.from c.args.steps.now _ c.args.text.now c.in-Ok.compiled.code c.in-Ok.replayed.made.items c.in-Ok.replayed.stop shown printed.0 (c.print_picture.ensures.whole status) c.in-Ok.ensures.ok printed.2.0 in
+    (printed.0, shown, drawn, subst (λ s. c.print_picture.result ≡ exit_status s) printed.2.1 printed.3, printed.4))
+    (λ part. part_so (λ (t : List ℕ). IsDrawn c.args.text.now c.args.from c.in-Ok.compiled.code (timeline_of (simulation_after c.in-Ok.compiled.code c.args.threads c.in-Ok.replayed.made.items)) t) (IsReplayPicture c.args.threads c.args.from c.args.steps.now (g.S.Read.remaining c.args.schedule) c.args.text.now) (g.W.Write.contents c.args.out.now) (g.W.Write.contents c.print_picture.new.out) (λ t e. (r, e)) part)

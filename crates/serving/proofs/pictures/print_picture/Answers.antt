@@ -1,15 +1,25 @@
-use Rattle.std.proofs.Common.{arith, refl, subst}
+use Rattle.std.proofs.Common.{arith, inl, inr, refl, subst, sym}
 use Rattle.std.specs.Io.KnownBytes.{Appends}
 use Rattle.report.specs.Views.{printed_of}
+use Rattle.picture.specs.Replayed.{IsDrawn}
+use Rattle.replay.specs.Replays.{simulation_after, timeline_of}
 use Rattle.serving.proofs.Refusals.{neither}
+use Rattle.serving.proofs.Printing.{serves_so}
 use Rattle.serving.proofs.pictures.print_picture.Goals as goal
 
-pub returns-in-Some-clause-picture : goal.returns-in-Some-clause-picture
-returns-in-Some-clause-picture g c = λ status.
-    let printed = c.print_for_replay.ensures.printed status in
-    (c.in-Some.svg.items, printed_of c.args.replayed.now.printed, (c.in-Some.ensures, refl), printed.0, subst (Appends (g.W.Write.contents c.args.out.now) (g.W.Write.contents c.print_for_replay.new.out)) c.as_slice.ensures.value printed.1)
+pub returns-in-Some-clause-prints : goal.returns-in-Some-clause-prints
+returns-in-Some-clause-prints g c =
+    let drawn = subst (IsDrawn c.args.text.now c.args.from c.args.compiled.now.code (timeline_of (simulation_after c.args.compiled.now.code c.args.threads c.args.replayed.now.made.items))) (sym c.as_slice.ensures.value) c.in-Some.ensures in
+    serves_so c.print_for_replay.ensures.prints
+    (λ says status. let printed = says status in (c.as_slice.result.now, printed_of c.args.replayed.now.printed, (drawn, refl), printed.0, printed.1)) (λ part. inr (c.as_slice.result.now, drawn, part))
 
-pub returns-in-None-clause-picture : goal.returns-in-None-clause-picture
-returns-in-None-clause-picture g c = λ status.
+pub returns-in-None-clause-prints : goal.returns-in-None-clause-prints
+returns-in-None-clause-prints g c =
     let e = c.out_of_memory.ensures in
-    absurd (neither c.out_of_memory.result (λ z. absurd (omega (arith, e, z))) (λ z. absurd (omega (arith, e, z))) status)
+    record {
+      within = omega (arith, e);
+      answers = λ status. absurd (neither c.out_of_memory.result (λ z. absurd (omega (arith, e, z))) (λ z. absurd (omega (arith, e, z))) status);
+      refused = λ one. absurd (omega (arith, e, one));
+      written = inl refl;
+      untouched = λ one. refl;
+    }

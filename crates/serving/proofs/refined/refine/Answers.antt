@@ -1,11 +1,12 @@
 use Rattle.std.proofs.Common.{arith, refl}
 use Rattle.std.specs.Prelude.{string_bytes}
-use Rattle.serving.specs.Compared.{IsEither, Tells}
 use Rattle.serving.specs.Limits.{HasNoCode}
 use Rattle.serving.specs.Refines.{SaysRefined, ShowsOther}
+use Rattle.serving.specs.Verdicts.{IsEither, Tells}
 use Rattle.serving.specs.Written.{WritesPart}
-use Rattle.serving.proofs.Comparing.{known_is, known_or, nothing_refined_written, other_lacks, passed_on, unread_refined}
+use Rattle.serving.proofs.Comparing.{nothing_refined_written, other_lacks, passed_on, unread_refined}
 use Rattle.serving.proofs.Opening.{few}
+use Rattle.serving.proofs.Verdicts.{known_is, known_or}
 use Rattle.serving.proofs.refined.refine.Goals as goal
 
 pub returns-in-Ok : goal.returns-in-Ok

@@ -1,19 +1,14 @@
 use Rattle.std.proofs.Common.{arith, inl, inr, refl}
 use Rattle.parse.specs.Faults.{source_of}
 use Rattle.serving.specs.Refines.{SaysRefined, ShowsOther}
-use Rattle.serving.proofs.Comparing.{tells_refined, tells_refusal, writes_refined}
+use Rattle.serving.proofs.Comparing.{refined_served}
+use Rattle.serving.proofs.Verdicts.{tells_refusal}
 use Rattle.serving.proofs.refined.refine_text.Goals as goal
 
 pub returns-in-Ok-compile : goal.returns-in-Ok-compile
-returns-in-Ok-compile g c = record {
-  within = c.refine_programs.ensures.status;
-  answers = tells_refined c.args.text.now c.args.other.now (source_of c.in-Ok.this.accepted.safe.typed.unit) (source_of c.in-Ok-compile.that.accepted.safe.typed.unit) c.in-Ok.ensures.source c.in-Ok.this.accepted.accepted c.in-Ok-compile.ensures.source c.in-Ok-compile.that.accepted.accepted
-      c.args.name.now c.args.limits.threads c.refine_programs.result _ _ c.refine_programs.ensures.answer;
-  refused = λ one. absurd (c.refine_programs.ensures.not_refused one);
-  written = writes_refined c.args.text.now c.args.other.now (source_of c.in-Ok.this.accepted.safe.typed.unit) (source_of c.in-Ok-compile.that.accepted.safe.typed.unit) c.in-Ok.ensures.source c.in-Ok.this.accepted.accepted c.in-Ok-compile.ensures.source c.in-Ok-compile.that.accepted.accepted
-      c.args.name.now c.args.limits.threads _ _ c.refine_programs.ensures.written;
-  untouched = λ one. absurd (c.refine_programs.ensures.not_refused one);
-}
+returns-in-Ok-compile g c =
+    refined_served c.args.text.now c.args.other.now (source_of c.in-Ok.this.accepted.safe.typed.unit) (source_of c.in-Ok-compile.that.accepted.safe.typed.unit) c.in-Ok.ensures.source c.in-Ok.this.accepted.accepted c.in-Ok-compile.ensures.source c.in-Ok-compile.that.accepted.accepted
+    c.args.name.now c.args.limits.threads c.refine_programs.result _ _ c.refine_programs.ensures
 
 pub returns-in-Ok : goal.returns-in-Ok
 returns-in-Ok g c = record {

@@ -3,6 +3,7 @@ use Rattle.serving.proofs.Codes.{accepts}
 use Rattle.serving.proofs.EndTests.{none_stopped}
 use Rattle.serving.proofs.ReplayRuns.{replays}
 use Rattle.serving.proofs.Parts.{part_so}
+use Rattle.serving.proofs.Printing.{serves_so}
 use Rattle.std.proofs.Common.{◌≡◌, ℕ, List}
 use Rattle.report.specs.Report.{report_text}
 use Rattle.serving.specs.Written.{IsReplayReport, ReplayedTo}
@@ -18,13 +19,9 @@ returns-in-Ok g c =
       shown = shown;
       replay = c.in-Ok.ensures.ok;
     } in
-    record {
-      within = c.print_replay-status.ensures.status;
-      answers = λ status.
-          let printed = c.print_replay-status.ensures.report status in
-          let replay = replays c.args.threads c.args.steps.now _ c.args.text.now _ _ _ shown (c.print_replay-status.ensures.whole status) c.in-Ok.ensures.ok in
-          (shown, (c.reports_are_orders.ensures.replays c.args.threads c.args.steps.now _ c.args.text.now shown replay (none_stopped _ shown status printed.0), accepts c.args.text.now _ c.in-Ok.ensures.ok.compiled, replay), printed.0, printed.1);
-      refused = λ one. absurd (c.print_replay-status.ensures.not_refused one);
-      written = part_so (λ (t : List ℕ). t ≡ report_text shown) (IsReplayReport c.args.threads c.args.steps.now (g.S.Read.remaining c.args.schedule) c.args.text.now) (g.W.Write.contents c.args.out.now) (g.W.Write.contents c.print_replay-status.new.out) (λ t e. (r, e)) c.print_replay-status.ensures.written;
-      untouched = λ one. absurd (c.print_replay-status.ensures.not_refused one);
-    }
+    serves_so c.print_replay-status.ensures.prints
+    (λ says status.
+    let printed = says status in
+    let replay = replays c.args.threads c.args.steps.now _ c.args.text.now _ _ _ shown (c.print_replay-status.ensures.whole status) c.in-Ok.ensures.ok in
+    (shown, (c.reports_are_orders.ensures.replays c.args.threads c.args.steps.now _ c.args.text.now shown replay (none_stopped _ shown status printed.0), accepts c.args.text.now _ c.in-Ok.ensures.ok.compiled, replay), printed.0, printed.1))
+    (λ part. part_so (λ (t : List ℕ). t ≡ report_text shown) (IsReplayReport c.args.threads c.args.steps.now (g.S.Read.remaining c.args.schedule) c.args.text.now) (g.W.Write.contents c.args.out.now) (g.W.Write.contents c.print_replay-status.new.out) (λ t e. (r, e)) part)

@@ -6,6 +6,7 @@ use Rattle.serving.proofs.Codes.{accepts}
 use Rattle.serving.proofs.EndTests.{none_stopped}
 use Rattle.serving.proofs.ReplayRuns.{replays, replays_shown}
 use Rattle.serving.proofs.Parts.{part_so}
+use Rattle.serving.proofs.Printing.{serves_so}
 use Rattle.report.specs.Report.{report_text}
 use Rattle.serving.specs.Written.{IsReplayTimeline, ReplayedTo}
 use Rattle.serving.proofs.replays.show_steps.Goals as goal
@@ -22,15 +23,11 @@ returns-in-Ok g c =
       shown = report;
       replay = c.in-Ok.ensures.ok;
     } in
-    record {
-      within = c.print_timeline-status.ensures.status;
-      answers = λ status.
-          let printed = c.print_timeline-status.ensures.report status in
-          let whole = c.print_timeline-status.ensures.whole status in
-          let shown = replays_shown c.args.threads c.args.steps.now _ c.args.text.now c.in-Ok.compiled.code made c.in-Ok.replayed.stop report whole c.in-Ok.ensures.ok in
-          let replay = replays c.args.threads c.args.steps.now _ c.args.text.now c.in-Ok.compiled.code made c.in-Ok.replayed.stop report whole c.in-Ok.ensures.ok in
-          (lines, report, (c.reports_are_orders.ensures.replays c.args.threads c.args.steps.now _ c.args.text.now report replay (none_stopped _ report status printed.0), accepts c.args.text.now _ c.in-Ok.ensures.ok.compiled, shown), printed.0, printed.1);
-      refused = λ one. absurd (c.print_timeline-status.ensures.not_refused one);
-      written = part_so (λ (t : List ℕ). t ≡ lines ++ report_text report) (IsReplayTimeline c.args.threads c.args.steps.now (g.S.Read.remaining c.args.schedule) c.args.text.now) (g.W.Write.contents c.args.out.now) (g.W.Write.contents c.print_timeline-status.new.out) (λ t e. (r, e)) c.print_timeline-status.ensures.written;
-      untouched = λ one. absurd (c.print_timeline-status.ensures.not_refused one);
-    }
+    serves_so c.print_timeline-status.ensures.prints
+    (λ says status.
+    let printed = says status in
+    let whole = c.print_timeline-status.ensures.whole status in
+    let shown = replays_shown c.args.threads c.args.steps.now _ c.args.text.now c.in-Ok.compiled.code made c.in-Ok.replayed.stop report whole c.in-Ok.ensures.ok in
+    let replay = replays c.args.threads c.args.steps.now _ c.args.text.now c.in-Ok.compiled.code made c.in-Ok.replayed.stop report whole c.in-Ok.ensures.ok in
+    (lines, report, (c.reports_are_orders.ensures.replays c.args.threads c.args.steps.now _ c.args.text.now report replay (none_stopped _ report status printed.0), accepts c.args.text.now _ c.in-Ok.ensures.ok.compiled, shown), printed.0, printed.1))
+    (λ part. part_so (λ (t : List ℕ). t ≡ lines ++ report_text report) (IsReplayTimeline c.args.threads c.args.steps.now (g.S.Read.remaining c.args.schedule) c.args.text.now) (g.W.Write.contents c.args.out.now) (g.W.Write.contents c.print_timeline-status.new.out) (λ t e. (r, e)) part)

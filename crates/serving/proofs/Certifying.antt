@@ -1,0 +1,100 @@
+-- Verdicts on reports.
+use Rattle.std.proofs.Common.{◌≡◌, ◌≢◌, inl, ℕ, List, [], ◌∷◌, Option, None, Some, ◌∙◌, ap, ap₂, refl, sym, subst}
+use Rattle.lex.specs.Pieces.{IsLexed}
+use Rattle.lex.specs.Tokens.{Tok}
+use Rattle.syntax.specs.Grammar.{ParsedSource, Spells}
+use Rattle.syntax.specs.Names.{initial_memory}
+use Rattle.syntax.specs.Orders.{in_order}
+use Rattle.syntax.specs.Threads.{thread}
+use Rattle.syntax.specs.Tree.{Program}
+use Rattle.separation.specs.Touching.{IsAccepted}
+use Rattle.command.specs.Asked.{AreThreads, IsListedOrder, words_listed}
+use Rattle.command.specs.declared.request.Claim.{Claim}
+use Rattle.serving.specs.Certified.{CertifiesReport, IsPrintedInOrder, OneReportIsPrinted, SaysSo, ShowsDifference, WritesVerdict}
+use Rattle.serving.specs.Checks.{Accepts, IsSourceOf}
+use Rattle.serving.specs.Orders.{IsOrderOf, RunsInOrder}
+use Rattle.serving.specs.Refusals.{IsRefused}
+use Rattle.serving.specs.Shows.{order_shown}
+use Rattle.serving.specs.Verdicts.{IsEither, Tells}
+use Rattle.report.specs.Printed.{Printed}
+use Rattle.report.specs.Report.{report_text}
+use Rattle.serving.specs.Written.{IsReportOf, WritesPart}
+use Rattle.serving.specs.inner.Serves.{ServesClaim, ServesVerdict}
+use Rattle.serving.proofs.Verdicts.{either_served, known_all, tells_nothing}
+use Rattle.std.specs.Prelude.{IfSome}
+
+-- ---- a verdict by one report that is due is one by another
+
+module _ (IsDue Is : List ℕ → Type 0) (so : (text : List ℕ) → IsDue text → Is text) where
+  says_due : (found w : List ℕ) → SaysSo IsDue found w → SaysSo Is found w
+  says_due found w s = (so found s.0, s.1)
+
+  shows_due : (found w : List ℕ) → ShowsDifference IsDue found w → ShowsDifference Is found w
+  shows_due found w d = (d.0, d.1, so d.0 d.2, d.3, d.4)
+
+  pub due_served : (Refuses : Type 0) (known : Option (List ℕ)) (status : ℕ) (old new : Option (List ℕ)) → ServesVerdict IsDue ⊥ known status old new → ServesVerdict Is Refuses known status old new
+  due_served Refuses known status old new s = either_served (SaysSo IsDue) (ShowsDifference IsDue) (SaysSo Is) (ShowsDifference Is) says_due shows_due Refuses known status old new s
+
+-- ---- a status that tells of no verdict
+
+pub no_claim_verdict : (claim : Claim) (listed report : Option (List ℕ)) (text : List ℕ) (status : ℕ) (old new : Option (List ℕ)) → status ≢ 0 → status ≢ 5 → CertifiesReport claim listed report text status old new
+no_claim_verdict claim None report text status old new zero five = tt
+no_claim_verdict claim (Some bytes) report text status old new zero five =
+    let due = IsPrintedInOrder claim bytes text in
+    known_all (λ found. Tells (SaysSo due found) (ShowsDifference due found) status old new) (λ found. tells_nothing (SaysSo due found) (ShowsDifference due found) status old new zero five) report
+
+pub nothing_claimed : (claim : Claim) (listed report : Option (List ℕ)) (text : List ℕ) (old new : Option (List ℕ)) → new ≡ old → WritesVerdict claim listed report text old new
+nothing_claimed claim None report text old new same = tt
+nothing_claimed claim (Some bytes) report text old new same =
+    let due = IsPrintedInOrder claim bytes text in
+    known_all (λ found. WritesPart (IsEither (SaysSo due found) (ShowsDifference due found)) old new) (λ found. inl same) report
+
+-- so many ticks
+pub due_with : (p : Program) (count ticks given : ℕ) (order due taken : List ℕ) → ticks ≡ given → taken ≡ due → IsReportOf (IsOrderOf p count ticks order) due → IsReportOf (IsOrderOf p count given order) taken
+due_with p count ticks given order due taken same is so = subst (IsReportOf (IsOrderOf p count given order)) (sym is) (subst (λ n. IsReportOf (IsOrderOf p count n order) due) same so)
+
+-- the report of an accepted program in an order is that of its text
+printed_in_order : (claim : Claim) (bytes text order : List ℕ) (source : ParsedSource) → IsListedOrder bytes order → IsSourceOf text source → ∥ IsAccepted source.program ∥₁ → (written : List ℕ) → IsReportOf (IsOrderOf source.program claim.threads claim.ticks order) written → IsPrintedInOrder claim bytes text written
+printed_in_order claim bytes text order source lists spelled accepted written is =
+    let run : RunsInOrder claim.threads claim.ticks order text is.0 = record { source = source; spelled = spelled; run = is.1 } in
+    let accepts : Accepts text = record { source = source; spelled = spelled; accepted = accepted } in
+    (order, lists, (is.0, (run, accepts), is.2))
+
+pub claim_served : (claim : Claim) (listed report : Option (List ℕ)) (text order : List ℕ) (source : ParsedSource) (status : ℕ) (old new : Option (List ℕ)) → IfSome listed (λ bytes. IsListedOrder bytes order) → IsSourceOf text source → ∥ IsAccepted source.program ∥₁ → ServesVerdict (IsReportOf (IsOrderOf source.program claim.threads claim.ticks order)) ⊥ report status old new → ServesClaim claim listed report (Some text) status old new
+claim_served claim None report text order source status old new lists spelled accepted s = record {
+  within = s.within;
+  answers = tt;
+  refused = λ e. absurd (s.refused e);
+  written = tt;
+  untouched = s.untouched;
+}
+claim_served claim (Some bytes) report text order source status old new lists spelled accepted s =
+    due_served (IsReportOf (IsOrderOf source.program claim.threads claim.ticks order)) (IsPrintedInOrder claim bytes text) (printed_in_order claim bytes text order source lists spelled accepted) (IsRefused text) report status old new s
+
+-- ---- the report of an order
+
+-- words are the numbers of one order
+one_order : (words : List (List ℕ)) (a b : List ℕ) → AreThreads words a → AreThreads words b → a ≡ b
+one_order [] [] [] x y = refl
+one_order [] [] (m ∷ b) x y = absurd y
+one_order [] (n ∷ a) b x y = absurd x
+one_order (w ∷ ws) [] b x y = absurd x
+one_order (w ∷ ws) (n ∷ a) [] x y = absurd y
+one_order (w ∷ ws) (n ∷ a) (m ∷ b) x y = ap₂ (λ p q. p ∷ q) (sym x.0.1 ∙ y.0.1) (one_order ws a b x.1 y.1)
+
+module _ (one_tokens : (text : List ℕ) (ts us : List Tok) → IsLexed text ts → IsLexed text us → ts ≡ us) (one_tree : (ts : List Tok) (a b : ParsedSource) → Spells a ts → Spells b ts → a ≡ b) where
+  one_source : (text : List ℕ) (a b : ParsedSource) → IsSourceOf text a → IsSourceOf text b → a ≡ b
+  one_source text a b is is' =
+      one_tree is.tokens a b is.spelled (subst (Spells b) (one_tokens text is'.tokens is.tokens is'.lexed is.lexed) is'.spelled)
+
+  one_run : (count ticks : ℕ) (order other text : List ℕ) (a b : Printed) → order ≡ other → RunsInOrder count ticks order text a → RunsInOrder count ticks other text b → a ≡ b
+  one_run count ticks order other text a b same r s =
+      r.run.shows
+      ∙ ap₂ (λ (source : ParsedSource) (o : List ℕ). order_shown source.program (in_order (thread source.program) (initial_memory source.program) count ticks o)) (one_source text r.source s.source r.spelled s.spelled) same
+      ∙ sym s.run.shows
+
+  pub one_report : OneReportIsPrinted
+  one_report claim listed text one other p q =
+      let r = p.2 in
+      let s = q.2 in
+      r.2 ∙ ap report_text (one_run claim.threads claim.ticks p.0 q.0 text r.0 s.0 (one_order (words_listed listed) p.0 q.0 p.1 q.1) r.1.0 s.1.0) ∙ sym s.2
