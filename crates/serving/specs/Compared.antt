@@ -5,7 +5,8 @@ use Rattle.command.specs.declared.request.Against.TheVariants.{Refined, Expected
 use Rattle.command.specs.declared.request.Comparison.{Comparison}
 use Rattle.serving.specs.Expected.{SaysExpected, ShowsUnexpected}
 use Rattle.serving.specs.Limits.{HasNoCode}
-use Rattle.serving.specs.Outcomes.{IsListOfOutcomes}
+use Rattle.report.specs.declared.outcome_list.WalkEnd.TheVariants.{Whole}
+use Rattle.serving.specs.Outcomes.{IsListEnding, IsListOfOutcomes}
 use Rattle.serving.specs.Refines.{SaysRefined, ShowsOther}
 use Rattle.serving.specs.Verdicts.{IsEither, Tells}
 use Rattle.serving.specs.Written.{WritesPart}
@@ -23,7 +24,7 @@ Confirms (Expected file) count text other written = SaysExpected (IsListOfOutcom
 -- it is shown where it is not
 abbrev pub Denies : Against → (count : ℕ) → (text other written : List ℕ) → Type 0
 Denies (Refined file) count text other written = ShowsOther (string_bytes file) count text other written
-Denies (Expected file) count text other written = ShowsUnexpected (IsListOfOutcomes count text) other written
+Denies (Expected file) count text other written = ShowsUnexpected (IsListEnding Whole count text) other written
 
 -- a comparison, where these bytes are those of the source and of the other file
 abbrev pub ComparesOutcomes : Comparison → (other : Option (List ℕ)) → (text : List ℕ) → (status : ℕ) →

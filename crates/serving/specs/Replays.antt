@@ -1,5 +1,5 @@
 -- Replaying steps of the threads of a source's text.
-use Rattle.std.specs.Prelude.{◌≡◌, ◌⊎◌, ◌++◌, ◌%◌, ℕ, List, map, Option, None, Some, IfSome}
+use Rattle.std.specs.Prelude.{◌≡◌, ◌≤◌, ◌⊎◌, ◌++◌, ◌%◌, ℕ, List, map, Option, None, Some, IfSome}
 use Rattle.std.specs.Io.KnownBytes.{Appends}
 use Rattle.std.specs.Str.Lines.{lines}
 use Rattle.rand_core.specs.Steps.{first_words}
@@ -22,7 +22,7 @@ use Rattle.world.specs.Simulations.{IsHolder, Simulation, world_of}
 use Rattle.replay.specs.declared.line.Line.{Line}
 use Rattle.replay.specs.declared.line.TheConstants.{MOST_STEPS}
 use Rattle.replay.specs.Replays.{EndsAt, events_of, first_world, simulation_after, steps_of, timeline_of}
-use Rattle.replay.specs.Schedules.{AreLines}
+use Rattle.replay.specs.Schedules.{AreLines, counts}
 use Rattle.replay.specs.Seeds.{generator_of, one_step}
 use Rattle.replay.specs.Turns.{AreLinesOfOrder}
 use Rattle.command.specs.declared.request.Steps.{Steps}
@@ -32,6 +32,7 @@ use Rattle.report.specs.Report.{report_text}
 use Rattle.report.specs.Timeline.{timeline_text}
 use Rattle.report.specs.declared.printed.End.{End}
 use Rattle.report.specs.declared.printed.End.TheVariants as end
+use Rattle.states.specs.Shown.{IsOrderAmong}
 use Rattle.serving.specs.Codes.{Compiles}
 use Rattle.serving.specs.Reports.{exit_status}
 use Rattle.serving.specs.Shows.{shown_globals}
@@ -44,11 +45,17 @@ IsSchedule schedule found = IfSome schedule (λ text. AreLines (lines text) foun
 abbrev pub lines_of_seed : (seed threads count : ℕ) → List Line
 lines_of_seed seed threads count = map (λ w. one_step (w % threads)) (first_words pcg32 count (generator_of seed))
 
+-- these lines make the turns of an order of so many threads, and no more steps than a replay makes
+pub record AreTurnsOf (code : Code) (threads : ℕ) (order : List ℕ) (found : List Line) : Type 0 where
+  pub among : IsOrderAmong threads order
+  pub few : counts found ≤ MOST_STEPS
+  pub lines : AreLinesOfOrder code threads order found
+
 -- the lines that the steps of a replay of this code come from
 abbrev pub AreLinesOf : Steps → Code → (threads : ℕ) → (schedule : Option (List ℕ)) → List Line → Type 0
 AreLinesOf (Schedule file) code threads schedule found = IsSchedule schedule found
 AreLinesOf (Seed seed count) code threads schedule found = found ≡ lines_of_seed seed threads count
-AreLinesOf (Order order) code threads schedule found = AreLinesOfOrder code threads order.items found
+AreLinesOf (Order order) code threads schedule found = AreTurnsOf code threads order.items found
 
 -- how a thread is found after a replay
 abbrev pub end_after_replay : WorldEnd → End
@@ -108,7 +115,7 @@ abbrev pub PrintsOrder : (threads : ℕ) → (order : List ℕ) → (text : List
     (old new : Option (List ℕ)) → Type 0
 PrintsOrder threads order text status old new =
     status ≡ 0 → (written : List ℕ) × (code : Code) × (found : List Line) × Compiles text code
-    × AreLinesOfOrder code threads order found × AreLines (lines written) found × Appends old new written
+    × AreTurnsOf code threads order found × AreLines (lines written) found × Appends old new written
 
 -- the text spells an accepted program, and this is what the report of a replay of its code shows
 pub record IsReplayOfText (threads : ℕ) (steps : Steps) (schedule : Option (List ℕ)) (text : List ℕ) (code : Code)

@@ -7,7 +7,6 @@ use Rattle.world.specs.declared.stop.WorldStop.{WorldStop}
 use Rattle.replay.specs.declared.line.Line.{Line}
 use Rattle.replay.specs.Replays.{simulation_after, timeline_of}
 use Rattle.replay.specs.Schedules.{AreLines}
-use Rattle.replay.specs.Turns.{AreLinesOfOrder}
 use Rattle.report.specs.Printed.{Printed}
 use Rattle.report.specs.Report.{report_text}
 use Rattle.report.specs.Timeline.{timeline_text}
@@ -21,7 +20,7 @@ use Rattle.serving.specs.Codes.{Compiles}
 use Rattle.serving.specs.Listings.{ShowsListing}
 use Rattle.serving.specs.Outcomes.{IsListOfOutcomes}
 use Rattle.serving.specs.Orders.{RunsInOrder}
-use Rattle.serving.specs.Replays.{IsReplayOfText, lines_of_seed}
+use Rattle.serving.specs.Replays.{AreTurnsOf, IsReplayOfText, lines_of_seed}
 use Rattle.serving.specs.Runs.{RunsConcurrently}
 
 -- the report of something that is so
@@ -60,7 +59,7 @@ IsSeedSchedule seed threads count text written =
 -- a schedule of an order, for a text that has code
 abbrev pub IsOrderSchedule : (threads : ℕ) → (order : List ℕ) → (text : List ℕ) → (written : List ℕ) → Type 0
 IsOrderSchedule threads order text written =
-    (code : Code) × (found : List Line) × Compiles text code × AreLinesOfOrder code threads order found
+    (code : Code) × (found : List Line) × Compiles text code × AreTurnsOf code threads order found
     × AreLines (lines written) found
 
 -- what a task asks to be written

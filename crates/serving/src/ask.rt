@@ -17,6 +17,7 @@ ghost use Rattle.serving.specs.inner.Serves.{PrintsProperties, ServesQuestions};
 
 use crate::askable::{Unaskable, first_unaskable};
 use crate::files::{Files, text_of};
+use crate::listed_ends::tell_asked_ends;
 use crate::print::{ENDED, STOPPED, UNUSABLE, print};
 use crate::program::{Compiled, compile, unit_of};
 use crate::properties::{PropertiesFound, properties_in};
@@ -80,7 +81,7 @@ fn ask_text<A: Allocator + Copy, W: Write, E: Write>(
     ensures unaskable { result ≡ 2 → IsUnaskable questions.now text.now }
 {
     match compile(alloc, text) {
-        Ok(compiled) => ask_program(alloc, questions, &compiled, out, teller),
+        Ok(compiled) => ask_program(alloc, questions, text, &compiled, out, teller),
         Err(fault) => teller.refuse(alloc, text, fault),
     }
 }
@@ -109,6 +110,7 @@ fn names_of<'a, A: Allocator>(
 fn ask_program<A: Allocator + Copy, W: Write, E: Write>(
     alloc: A,
     questions: &Questions,
+    text: &str,
     compiled: &Compiled<A>,
     out: &mut W,
     teller: &mut Teller<'_, E>,
@@ -125,6 +127,7 @@ fn ask_program<A: Allocator + Copy, W: Write, E: Write>(
             Ok(last) => ask_names(
                 alloc,
                 questions,
+                text,
                 compiled,
                 always.as_slice(),
                 last.as_slice(),
@@ -141,6 +144,7 @@ fn ask_program<A: Allocator + Copy, W: Write, E: Write>(
 fn ask_names<A: Allocator + Copy, W: Write, E: Write>(
     alloc: A,
     questions: &Questions,
+    text: &str,
     compiled: &Compiled<A>,
     always: &[&str],
     last: &[&str],
@@ -172,7 +176,12 @@ fn ask_names<A: Allocator + Copy, W: Write, E: Write>(
         last,
         teller,
     ) {
-        Ok(found) => print_found(alloc, &found, out, teller.err),
+        Ok(found) => {
+            let status = print_found(alloc, &found, out, teller.err);
+            let accepted = &compiled.accepted;
+            tell_asked_ends(alloc, text, accepted, questions.threads, &found, teller);
+            status
+        }
         Err(fault) => teller.refuse_order(fault),
     }
 }

@@ -1,15 +1,21 @@
 //! `txc outcomes` with `--refines` or `--expect`: outcomes that are compared with those of another program, or with a
 //! list.
 
-ghost use Rattle.std.specs.Prelude.{◌≡◌, Some};
+ghost use Rattle.std.specs.Prelude.{◌≡◌, Some, true};
+ghost use Rattle.report.specs.declared.outcome_list.WalkEnd.TheVariants.{Whole};
 ghost use Rattle.serving.specs.Compared.{name_of};
 ghost use Rattle.serving.specs.inner.Serves.{ServesComparison};
 
 use crate::expected::expect;
 use crate::files::{Files, text_of};
+use crate::listed_ends::tell_stop;
+use crate::print::STOPPED;
 use crate::refined::refine;
 use crate::tell::Teller;
+use crate::walked::OutcomesFound;
 use command::{Against, Comparison};
+use messages::write_shown;
+use report::WalkEnd;
 use std::alloc::Allocator;
 use std::io::{Read, Write};
 
@@ -118,4 +124,29 @@ pub(crate) struct Limits {
     pub(crate) steps: u32,
     pub(crate) limit: u32,
     pub(crate) memory: u32,
+}
+
+/// Whether these are all outcomes.
+pub(crate) fn is_whole<A: Allocator>(found: &OutcomesFound<A>) -> bool
+    ensures { result ≡ true → found.now.end ≡ Whole }
+{
+    found.end == WalkEnd::Whole
+}
+
+/// Says at what the walk over the states of the program in a file was stopped, and where lines are wanted which option
+/// lets it go on.
+pub(crate) fn tell_stopped<E: Write>(name: &str, end: WalkEnd, teller: &mut Teller<'_, E>) -> u8
+    ensures { result ≡ 4 }
+{
+    let _ = teller.err.write_all(b"txc: ");
+    let _ = write_shown(name, "", teller.err);
+    let _ = match end {
+        WalkEnd::AtSteps => teller.err.write_all(b": stopped at the steps\n"),
+        WalkEnd::AtMemory => teller.err.write_all(b": stopped at the memory\n"),
+        WalkEnd::Whole | WalkEnd::AtLimit => teller.err.write_all(b": stopped at the limit\n"),
+    };
+    if teller.detail.lines {
+        tell_stop(end, teller.err);
+    }
+    STOPPED
 }

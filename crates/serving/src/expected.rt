@@ -2,13 +2,14 @@
 
 ghost use Rattle.std.specs.Prelude.{◌≡◌, Some};
 ghost use Rattle.serving.specs.Limits.{HasNoCode};
-ghost use Rattle.serving.specs.Outcomes.{IsListOfOutcomes};
+ghost use Rattle.report.specs.declared.outcome_list.WalkEnd.TheVariants.{Whole};
+ghost use Rattle.serving.specs.Outcomes.{IsListEnding, IsListOfOutcomes};
 ghost use Rattle.serving.specs.inner.Compared.{list_of};
-ghost use Rattle.serving.specs.inner.Serves.{ServesExpected};
+ghost use Rattle.serving.specs.inner.Serves.{PrintsEither, ServesExpected};
 
 use crate::all_outcomes::list_outcomes;
 use crate::certify::read_all;
-use crate::compared::Limits;
+use crate::compared::{Limits, is_whole, tell_stopped};
 use crate::print::{REFUTED, print, print_text};
 use crate::request::bytes_of_memory;
 use crate::source::OrderFault;
@@ -29,8 +30,8 @@ pub(crate) fn expect<A: Allocator + Copy, Q: Read + Drop, W: Write, E: Write>(
     out: &mut W,
     teller: &mut Teller<'_, E>,
 ) -> u8
-    ensures { ServesExpected (IsListOfOutcomes limits.threads text.now) (HasNoCode text.now) (Q.remaining expected)
-        result (W.contents out.old) (W.contents out.new) }
+    ensures { ServesExpected (IsListOfOutcomes limits.threads text.now) (IsListEnding Whole limits.threads text.now)
+        (HasNoCode text.now) (Q.remaining expected) result (W.contents out.old) (W.contents out.new) }
 {
     match list_outcomes(
         alloc,
@@ -56,8 +57,8 @@ fn expect_outcomes<A: Allocator + Copy, Q: Read + Drop, W: Write, E: Write>(
     out: &mut W,
     teller: &mut Teller<'_, E>,
 ) -> u8
-    ensures { ServesExpected (λ t. t ≡ list_of found.now) ⊥ (Q.remaining expected) result (W.contents out.old)
-        (W.contents out.new) }
+    ensures { ServesExpected (λ t. t ≡ list_of found.now) (λ t. (found.now.end ≡ Whole) × (t ≡ list_of found.now)) ⊥
+        (Q.remaining expected) result (W.contents out.old) (W.contents out.new) }
 {
     match list_text(
         alloc,
@@ -66,46 +67,65 @@ fn expect_outcomes<A: Allocator + Copy, Q: Read + Drop, W: Write, E: Write>(
         found.states,
         found.end,
     ) {
-        Ok(list) => expect_list(alloc, list.as_slice(), file, expected, out, teller),
+        Ok(list) => expect_list(alloc, found, list.as_slice(), file, expected, out, teller),
         Err(_) => out_of_memory(teller.err),
     }
 }
 
-/// Says whether a list is the one in a file.
+/// Says whether a list of these outcomes is the one in a file.
 fn expect_list<A: Allocator + Copy, Q: Read + Drop, W: Write, E: Write>(
     alloc: A,
+    found: &OutcomesFound<A>,
     list: &[u8],
     file: &str,
     expected: Q,
     out: &mut W,
     teller: &mut Teller<'_, E>,
 ) -> u8
-    ensures { ServesExpected (λ t. t ≡ list.now) ⊥ (Q.remaining expected) result (W.contents out.old)
-        (W.contents out.new) }
+    ensures { ServesExpected (λ t. t ≡ list.now) (λ t. (found.now.end ≡ Whole) × (t ≡ list.now)) ⊥
+        (Q.remaining expected) result (W.contents out.old) (W.contents out.new) }
 {
     match read_all(alloc, expected) {
-        Ok(expected) => tell_expected(alloc, list, expected.as_slice(), out, teller.err),
+        Ok(expected) => tell_expected(alloc, found, list, expected.as_slice(), out, teller),
         Err(error) => teller.not_read(file, &error),
     }
 }
 
-/// Says whether a list is the one that is expected, or shows the first line in which it differs.
+/// Says whether a list of these outcomes is the one that is expected, or shows the first line in which it differs.
 fn tell_expected<A: Allocator + Copy, W: Write, E: Write>(
     alloc: A,
+    found: &OutcomesFound<A>,
     list: &[u8],
     expected: &[u8],
     out: &mut W,
-    err: &mut E,
+    teller: &mut Teller<'_, E>,
 ) -> u8
-    ensures { ServesExpected (λ t. t ≡ list.now) ⊥ (Some expected.now) result (W.contents out.old)
-        (W.contents out.new) }
+    ensures { ServesExpected (λ t. t ≡ list.now) (λ t. (found.now.end ≡ Whole) × (t ≡ list.now)) ⊥ (Some expected.now)
+        result (W.contents out.old) (W.contents out.new) }
 {
     match difference(alloc, b"expected", expected, b"found", list) {
-        Ok(None) => print_text(b"as expected\n", out, err),
-        Ok(Some(difference)) => match print(difference.as_slice(), out) {
-            Ok(()) => REFUTED,
-            Err(_) => cannot_write(err),
-        },
-        Err(_) => out_of_memory(err),
+        Ok(None) => print_text(b"as expected\n", out, teller.err),
+        Ok(Some(difference)) => tell_unexpected(found, difference.as_slice(), out, teller),
+        Err(_) => out_of_memory(teller.err),
+    }
+}
+
+/// Shows the first line in which a list of these outcomes differs, where these are all: else what differs may be one
+/// that was not met.
+fn tell_unexpected<A: Allocator, W: Write, E: Write>(
+    found: &OutcomesFound<A>,
+    difference: &[u8],
+    out: &mut W,
+    teller: &mut Teller<'_, E>,
+) -> u8
+    ensures { PrintsEither (λ written. ⊥) (λ written. (found.now.end ≡ Whole) × (written ≡ difference.now)) result
+        (W.contents out.old) (W.contents out.new) }
+{
+    if !is_whole(found) {
+        return tell_stopped(teller.detail.file, found.end, teller);
+    }
+    match print(difference, out) {
+        Ok(()) => REFUTED,
+        Err(_) => cannot_write(teller.err),
     }
 }

@@ -7,9 +7,7 @@ ghost use Rattle.serving.specs.Files.{AnswersFiles, RefusesSource, WritesForFile
 ghost use Rattle.serving.specs.Refusals.{IsRefused};
 ghost use Rattle.serving.specs.Sources.{IsTextOf};
 ghost use Rattle.replay.specs.declared.line.TheConstants.{MOST_STEPS};
-ghost use Rattle.replay.specs.Schedules.{counts};
-ghost use Rattle.replay.specs.Turns.{AreLinesOfOrder};
-ghost use Rattle.serving.specs.Replays.{AreLinesOf, IsSchedule, lines_of_seed};
+ghost use Rattle.serving.specs.Replays.{AreLinesOf, AreTurnsOf, IsSchedule, lines_of_seed};
 ghost use Rattle.serving.specs.inner.Serves.{ServesTask};
 
 use crate::ask::open_asked;
@@ -284,8 +282,7 @@ pub(crate) fn lines_in_order<A: Allocator + Copy, E: Write>(
     order: &[u32],
     teller: &mut Teller<'_, E>,
 ) -> Result<Vec<Line, A>, u8>
-    ensures lines { IfOk result (λ v. AreLinesOfOrder code.now threads order.now v.items) }
-    ensures few { IfOk result (λ v. counts v.items ≤ MOST_STEPS) }
+    ensures turns { IfOk result (λ v. AreTurnsOf code.now threads order.now v.items) }
     ensures status { IfErr result (λ s. (s ≡ 2) ⊎ (s ≡ 4)) }
 {
     match turns(alloc, code, threads, order) {

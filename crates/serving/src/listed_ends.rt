@@ -3,6 +3,7 @@
 
 use crate::ends::{is_some_new, tell_threads};
 use crate::program::read_accepted;
+use crate::properties::PropertiesFound;
 use crate::source::order_accepted;
 use crate::tell::Teller;
 use crate::walked::OutcomesFound;
@@ -38,8 +39,29 @@ pub(crate) fn tell_listed_ends<A: Allocator + Copy, E: Write>(
     tell_stop(found.end, teller.err);
 }
 
+/// Tells where threads stand in orders that are stuck, where properties are asked and lines are wanted, as of listed
+/// ones. Of a walk that was stopped it says which option lets it go on.
+pub(crate) fn tell_asked_ends<A: Allocator + Copy, E: Write>(
+    alloc: A,
+    text: &str,
+    accepted: &Accepted<A>,
+    threads: u32,
+    found: &PropertiesFound<A>,
+    teller: &mut Teller<'_, E>,
+) {
+    if !teller.detail.lines {
+        return;
+    }
+    let mut shown = Vec::new(alloc);
+    let stuck = found.stuck.as_slice();
+    tell_orders(
+        alloc, text, accepted, threads, stuck, &mut shown, teller.err,
+    );
+    tell_stop(found.end, teller.err);
+}
+
 /// Says which option lets a walk go on that was stopped.
-fn tell_stop<E: Write>(end: WalkEnd, err: &mut E) {
+pub(crate) fn tell_stop<E: Write>(end: WalkEnd, err: &mut E) {
     let words = match end {
         WalkEnd::Whole => return,
         WalkEnd::AtLimit => "--limit L is how many states it looks at",
@@ -97,7 +119,7 @@ fn tell_order<A: Allocator + Copy, E: Write>(
 }
 
 /// Tells of which order what follows is, as a word of a command line.
-fn write_order<E: Write>(order: &[u32], err: &mut E) {
+pub(crate) fn write_order<E: Write>(order: &[u32], err: &mut E) {
     let _ = err.write_all(b"txc: with --order ");
     if let [first, others @ ..] = order {
         let _ = write!(err, "{first}");

@@ -4,7 +4,6 @@ ghost use Rattle.std.specs.Prelude.{◌≡◌, ◌≢◌, ◌≤◌, ◌⊎◌, 
 ghost use Rattle.syntax.specs.Views.{program_of};
 ghost use Rattle.refinements.specs.Told as spec;
 ghost use Rattle.report.specs.Views.{reported_of};
-ghost use Rattle.report.specs.declared.outcome_list.WalkEnd.TheVariants.{Whole};
 ghost use Rattle.serving.specs.Codes.{IsCodeOf};
 ghost use Rattle.serving.specs.Limits.{HasNoCode};
 ghost use Rattle.serving.specs.Outcomes.{AreOutcomesOf};
@@ -13,8 +12,9 @@ ghost use Rattle.serving.specs.Refines.{SaysRefined, SaysRefines, ShowsBeyond, S
 ghost use Rattle.serving.specs.inner.Compared.{SaysShown, ShowsUnshown};
 ghost use Rattle.serving.specs.inner.Serves.{PrintsEither, ServesEither};
 
-use crate::compared::Limits;
+use crate::compared::{Limits, is_whole, tell_stopped};
 use crate::files::text_of;
+use crate::listed_ends::write_order;
 use crate::print::{REFUSED, REFUTED, STOPPED, print, print_text};
 use crate::program::{Compiled, SourceFault, compile};
 use crate::request::bytes_of_memory;
@@ -23,7 +23,7 @@ use crate::walked::{OutcomesFound, outcomes_in};
 use command::Format;
 use messages::write_shown;
 use refinements::{beyond_text, first_beyond, refined_text};
-use report::{ReportedOrder, WalkEnd};
+use report::ReportedOrder;
 use std::alloc::Allocator;
 use std::io::{Read, Write};
 
@@ -143,13 +143,6 @@ fn outcomes_found<A: Allocator + Copy, E: Write>(
     }
 }
 
-/// Whether these are all outcomes.
-fn is_whole<A: Allocator>(found: &OutcomesFound<A>) -> bool
-    ensures { result ≡ true → found.now.end ≡ Whole }
-{
-    found.end == WalkEnd::Whole
-}
-
 /// Says whether each of these outcomes is one of the others, where both are all.
 fn tell_found<A: Allocator + Copy, W: Write, E: Write>(
     alloc: A,
@@ -166,10 +159,10 @@ fn tell_found<A: Allocator + Copy, W: Write, E: Write>(
         (W.contents out.old) (W.contents out.new) }
 {
     if !is_whole(found) {
-        return tell_stopped(teller.detail.file, found.end, teller.err);
+        return tell_stopped(teller.detail.file, found.end, teller);
     }
     if !is_whole(others) {
-        return tell_stopped(name, others.end, teller.err);
+        return tell_stopped(name, others.end, teller);
     }
     match first_beyond(alloc, found.outcomes.as_slice(), others.outcomes.as_slice()) {
         Ok(Some(one)) => tell_beyond(alloc, name, one, out, teller.err),
@@ -213,7 +206,7 @@ fn tell_refined<A: Allocator + Copy, W: Write, E: Write>(
         (W.contents out.old) (W.contents out.new) }
 {
     if !found.stuck.is_empty() {
-        return tell_stuck(teller.detail.file, teller.err);
+        return tell_stuck(found, teller);
     }
     match refined_text(
         alloc,
@@ -238,26 +231,17 @@ fn tell_whose<E: Write>(status: u8, name: &str, teller: &mut Teller<'_, E>) -> u
     status
 }
 
-/// Says that some order of the program in a file is stuck.
-fn tell_stuck<E: Write>(name: &str, err: &mut E) -> u8
+/// Says that some order of the source is stuck, and where lines are wanted the first one.
+fn tell_stuck<A: Allocator, E: Write>(found: &OutcomesFound<A>, teller: &mut Teller<'_, E>) -> u8
     ensures { result ≡ 4 }
 {
-    let _ = err.write_all(b"txc: ");
-    let _ = write_shown(name, "", err);
-    let _ = err.write_all(b": an order is stuck\n");
-    STOPPED
-}
-
-/// Says at what the walk over the states of the program in a file was stopped.
-fn tell_stopped<E: Write>(name: &str, end: WalkEnd, err: &mut E) -> u8
-    ensures { result ≡ 4 }
-{
-    let _ = err.write_all(b"txc: ");
-    let _ = write_shown(name, "", err);
-    let _ = match end {
-        WalkEnd::AtSteps => err.write_all(b": stopped at the steps\n"),
-        WalkEnd::AtMemory => err.write_all(b": stopped at the memory\n"),
-        WalkEnd::Whole | WalkEnd::AtLimit => err.write_all(b": stopped at the limit\n"),
-    };
+    let _ = teller.err.write_all(b"txc: ");
+    let _ = write_shown(teller.detail.file, "", teller.err);
+    let _ = teller.err.write_all(b": an order is stuck\n");
+    if teller.detail.lines {
+        if let [first, ..] = found.stuck.as_slice() {
+            write_order(first.order.as_slice(), teller.err);
+        }
+    }
     STOPPED
 }

@@ -316,7 +316,7 @@ fn first_transcripts() -> &'static [Transcript] {
             b"// Philosophers who take the left fork in one transaction and the right one in the next: each may have one and wait for ever.\nint taken[3], eating[3], meals;\n\nint neighbours_wait(void) {\n    return !(eating[0] && eating[1]) && !(eating[1] && eating[2]) && !(eating[2] && eating[0]);\n}\n\nvoid take(int fork) {\n    int mine = 0;\n    while (!mine) {\n        __transaction_atomic { mine = !taken[fork]; if (mine) taken[fork] = 1; }\n    }\n}\n\nvoid worker(int self) {\n    int left = self % 3, right = (self + 1) % 3;\n    take(left);\n    take(right);\n    __transaction_atomic { eating[left] = 1; }\n    __transaction_atomic { eating[left] = 0; meals = meals + 1; }\n    __transaction_atomic { taken[left] = 0; taken[right] = 0; }\n}\n",
             b"",
             b"",
-            b"== always neighbours_wait: states 81\n== stuck --order 0,1,2\n== thread 0: waits\n== thread 1: waits\n== thread 2: waits\n== memory\ntaken = 1 1 1\neating = 0 0 0\nmeals = 0\n",
+            b"== always neighbours_wait: states 81\n== stuck --order 0,1,2\n== thread 0: waits\n== thread 1: waits\n== thread 2: waits\n== memory\ntaken = 1 1 1\neating = 0 0 0\nmeals = 0\ntxc: with --order 0,1,2\ntxc: thread 0: waits at 11:9\n        __transaction_atomic { mine = !taken[fork]; if (mine) taken[fork] = 1; }\n        ^^^^^^^^^^^^^^^^^^^^\ntxc: thread 1: waits at 11:9\ntxc: thread 2: waits at 11:9\n",
         ),
         (
             "txc outcomes examples/properties/queue.c --threads 4 --always within --final all_taken",

@@ -305,7 +305,7 @@ fn programs_are_compared_where_both_are_walked(rt: HostRuntime) {
 
 /// Programs that are compared with lists.
 fn expected_rows() -> &'static [Row] {
-    static ROWS: [Row; 16] = [
+    static ROWS: [Row; 18] = [
         // the list as it was printed
         (
             EXPECTS,
@@ -331,6 +331,19 @@ fn expected_rows() -> &'static [Row] {
             LAST,
             b"== outcomes: 0, stuck: 0, states: 3, stopped at the limit\n",
             (0, b"as expected\n", b""),
+        ),
+        // of a walk that was stopped at the states or at the steps no list is refuted
+        (
+            "txc outcomes a.c --threads 2 --expect b.c --limit 3",
+            LAST,
+            b"== outcome --order 0,1\n== thread 0: ended\n== thread 1: ended\n== memory\nx = 1\n== outcome --order 1,0\n== thread 0: ended\n== thread 1: ended\n== memory\nx = 0\n== outcomes: 2, stuck: 0, states: 5\n",
+            (4, b"", b"txc: a.c: stopped at the limit\n"),
+        ),
+        (
+            "txc outcomes a.c --expect b.c --steps 1000",
+            b"int x; void worker(int self) { __transaction_atomic { x = 5; } while (1) { } }",
+            b"",
+            (4, b"", b"txc: a.c: stopped at the steps\n"),
         ),
         // a list of more states, of another program
         (

@@ -20,4 +20,4 @@ returns-in-Ok g c =
     let shown = subst (λ s. Appends (g.W.Write.contents c.args.out.now) (g.W.Write.contents c.print_outcomes-status.new.out) (list_text outcomes s found.states found.end)) printed.1 printed.3 in
     let text = subst (λ e. Appends (g.W.Write.contents c.args.out.now) (g.W.Write.contents c.print_outcomes-status.new.out) (list_text outcomes [] found.states e)) printed.0 shown in
     (outcomes, found.states, all, printed.2, text))
-    (λ part. part_so _ _ _ _ (λ text e. (outcomes, map reported_of found.stuck.items, found.states, found.end, c.in-Ok.ensures.are, e)) part)
+    (λ part. part_so _ _ _ _ (λ text e. (found.end, (outcomes, map reported_of found.stuck.items, found.states, c.in-Ok.ensures.are, e))) part)

@@ -1,5 +1,4 @@
 use Rattle.std.proofs.Common.{arith, inl, inr, refl, subst, sym}
-use Rattle.std.specs.Io.KnownBytes.{Appends}
 use Rattle.report.specs.Views.{printed_of}
 use Rattle.picture.specs.Replayed.{IsDrawn}
 use Rattle.replay.specs.Replays.{simulation_after, timeline_of}
