@@ -76,10 +76,6 @@ tells_irrevocable p set h =
 
 -- ---- the definition of a name
 
-is_none : {X : Type 0} (o : Option X) → is_some o ≡ false → o ≡ None
-is_none None e = refl
-is_none (Some x) e = absurd (false≢true (sym e))
-
 -- an item that does not define it is passed over, and one that does is it
 module _ (x : List ℕ) (rest : Option (Function × Stmts)) (f : Function) where
   passed : (o : Option Stmts) (t : Bool) → bytes_eq f.name.text x ≡ t → (if is_some o && t then Some f else None) ≡ None → definition_or f x o rest ≡ rest

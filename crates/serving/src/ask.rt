@@ -18,7 +18,7 @@ ghost use Rattle.serving.specs.inner.Serves.{PrintsProperties, ServesQuestions};
 use crate::askable::{Unaskable, first_unaskable};
 use crate::files::{Files, text_of};
 use crate::listed_ends::tell_asked_ends;
-use crate::print::{ENDED, STOPPED, UNUSABLE, print};
+use crate::print::{ENDED, REFUTED, STOPPED, UNUSABLE, print};
 use crate::program::{Compiled, compile, unit_of};
 use crate::properties::{PropertiesFound, properties_in};
 use crate::request::bytes_of_memory;
@@ -28,9 +28,6 @@ use messages::write_shown;
 use report::{Finding, Property, WalkEnd, properties_text};
 use std::alloc::{AllocError, Allocator};
 use std::io::{Read, Write};
-
-/// The exit status where some property fails.
-const FAILED: u8 = 5;
 
 /// Opens the source, and says whether functions of it hold.
 pub(crate) fn open_asked<A: Allocator + Copy, F: Files, W: Write, E: Write>(
@@ -276,7 +273,7 @@ fn one_is_unheld<A: Allocator>(properties: &[Property<A>]) -> bool
     properties.iter().any(|one| is_unheld(one))
 }
 
-/// Whether it is told of one of these that it fails, likewise.
+/// Whether it is told of one of these that it fails: a call of its own, as the one before.
 fn one_fails<A: Allocator>(properties: &[Property<A>]) -> bool
     ensures { result ≡ list_any (λ r. is_failed (property_of r).finding) properties.now }
 {
@@ -308,7 +305,7 @@ fn status_of_found<A: Allocator>(found: &PropertiesFound<A>) -> u8
     ensures failed { result ≡ 5 → has_failed (map property_of found.now.properties.items) ≡ true }
 {
     if some_fails(found.properties.as_slice()) {
-        return FAILED;
+        return REFUTED;
     }
     if found.end != WalkEnd::Whole {
         return STOPPED;

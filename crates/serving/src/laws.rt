@@ -52,8 +52,8 @@ pub fn reports_are_orders()
 }
 
 /// A list of all outcomes has every report. Where all outcomes of a source were listed, whatever its threads show in some
-/// order, with whatever number of ticks, is in the list, if each of them has ended or trapped. And so is what a run of all threads at once shows: `reports_are_orders` says that it
-/// is what an order shows.
+/// order, with whatever number of ticks, is in the list, if each of them has ended or trapped. And so is what a run of all
+/// threads at once shows: `reports_are_orders` says that it is what an order shows.
 pub fn orders_are_listed()
     ensures { OrdersAreListed }
 {
@@ -68,7 +68,8 @@ pub fn orders_are_listed()
 /// order's globals, texts and ends, with `running` for a thread that waits, the lock is free, and no attempt was
 /// dropped; and where there are few enough for a schedule they can be made.
 ///
-/// Each outcome that is listed is word for word the report of a world that steps which do not stop lead to. With `reports_are_orders` and `orders_are_listed` such a list is exact.
+/// Each outcome that is listed is word for word the report of a world that steps which do not stop lead to. With
+/// `reports_are_orders` and `orders_are_listed` such a list is exact.
 pub fn orders_are_replays()
     ensures replays { OrdersAreReplays }
     ensures outcomes { OutcomesAreDone }

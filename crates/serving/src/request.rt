@@ -1,4 +1,4 @@
-//! Answers a request over readers and writers.
+//! Does one task with a program's text, and explains faults and ends.
 
 ghost use Rattle.std.specs.Prelude.{◌≡◌, ◌≤◌, ◌⊎◌, IfSome, Some};
 ghost use Rattle.serving.specs.Answers.{Answers};
