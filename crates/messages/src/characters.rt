@@ -62,6 +62,9 @@ pub(crate) fn of_character(text: &[u8], offset: usize) -> Option<&'static str> {
         [b'\'', ..] if before.is_ascii_digit() => Some(of_letter(before, b'\'')),
         [b'.', b'0'..=b'9', ..] => Some(NO_FLOATING),
         [b'.', ..] if before.is_ascii_digit() => Some(NO_FLOATING),
+        [b'.', b'.', b'.', ..] => Some(
+            "there is no ...: a function has a fixed number of parameters",
+        ),
         [first, ..] => of_byte(*first),
         [] => None,
     }

@@ -157,7 +157,7 @@ fn word_explanation(word: &str) -> Option<&'static str> {
             "trap 1: a signed result out of range\nWhen: `+`, `-`, `*`, `/`, `%`, `<<` or a `-` before a value gives what its type does not hold; `unsigned` wraps instead\nExample: `int m = 2147483647; m = m + 1;`\ntrap 2: a division by 0\nWhen: the right operand of `/` or `%` is 0\nExample: `int z = 0; z = 7 / z;`\ntrap 3: an index outside its array\nWhen: an index is negative, or not below the array's length, in a read or a write\nExample: `int a[5];` and `a[5] = 1;` in a transaction\ntrap 4: a call too many\nWhen: 64 functions are live, `worker` among them, and one more is called\nExample: `void f(void) { f(); }`\ntrap 5: a shift too far\nWhen: the right operand of `<<` or `>>` is negative, or not below 32, or 64 where a `long long` is shifted\nExample: `int s = 32; s = 1 << s;`\n",
         ),
         "budget" => Some(
-            "budget: the steps are used up\nWhen: `txc run` was told `--budget B`, and the thread wants more than B steps: it waits in a loop for what no other thread does, or B is too small\nExample: `txc run FILE --budget 50` of `while (1) ;`\n",
+            "budget: the steps are used up\nWhen: the thread wants more steps than the B of `txc run --budget B`, or than 4,294,967,295 where nothing is said: it waits in a loop for what no other thread does, or B is too small\nExample: `txc run FILE --budget 50` of `while (1) ;`\n",
         ),
         "spent" => Some(
             "spent: the ticks are used up\nWhen: `txc source` was told `--ticks N`, or gave 100,000, and the thread wants more\nExample: `txc source FILE --order 0 --ticks 9` of `while (1) ;`\n",

@@ -27,6 +27,14 @@ const TRUTH: &str = "numbers alone are constants: write 0 or 1";
 
 const LIMITS: &str = "numbers alone are constants: write the number";
 
+const LOCKS: &str = "there are no locks: write __transaction_atomic { .. } round what is shared";
+
+const SHARED: &str = "a shared variable is a plain global: use it in __transaction_atomic { .. }";
+
+const THREADS: &str = "threads come of --threads T, and transactions are their locks";
+
+const OWN: &str = "all threads share each global: what is one thread's own is a local variable";
+
 /// Reserved words of C that have no place here.
 fn reserved() -> &'static [Row] {
     static ROWS: [Row; 21] = [
@@ -53,14 +61,17 @@ fn reserved() -> &'static [Row] {
         ("volatile", NO_WORD),
         ("register", NO_WORD),
         ("restrict", NO_WORD),
-        ("auto", NO_WORD),
+        (
+            "auto",
+            "there is no auto: write int, unsigned or long long in its place",
+        ),
     ];
     &ROWS
 }
 
 /// Names with which other C, or another language, says what txc's C says otherwise.
 fn foreign_names() -> &'static [Row] {
-    static ROWS: [Row; 37] = [
+    static ROWS: [Row; 51] = [
         ("bool", TYPES),
         ("_Bool", TYPES),
         ("size_t", TYPES),
@@ -72,6 +83,20 @@ fn foreign_names() -> &'static [Row] {
         ("uint16_t", TYPES),
         ("uint32_t", TYPES),
         ("uint64_t", TYPES),
+        ("pthread_mutex_t", LOCKS),
+        ("mtx_t", LOCKS),
+        ("sem_t", LOCKS),
+        ("pthread_t", THREADS),
+        ("thrd_t", THREADS),
+        ("_Atomic", SHARED),
+        ("atomic_int", SHARED),
+        ("atomic_uint", SHARED),
+        ("atomic_bool", SHARED),
+        ("thread_local", OWN),
+        ("_Thread_local", OWN),
+        ("__thread", OWN),
+        ("FILE", LIBRARY),
+        ("using", LIBRARY),
         ("fn", DECLARATIONS),
         ("def", DECLARATIONS),
         ("func", DECLARATIONS),
@@ -143,14 +168,21 @@ fn library() -> &'static [Row] {
 
 /// Beginnings of names, and what is told of names that begin so.
 fn beginnings() -> &'static [Row] {
-    static ROWS: [Row; 4] = [
+    static ROWS: [Row; 14] = [
         ("__transaction", TRANSACTIONS),
         ("_transaction", TRANSACTIONS),
         ("__tm_", TRANSACTIONS),
-        (
-            "pthread_",
-            "threads come of --threads T, and transactions are their locks",
-        ),
+        ("pthread_mutex_", LOCKS),
+        ("pthread_rwlock_", LOCKS),
+        ("pthread_spin", LOCKS),
+        ("mtx_", LOCKS),
+        ("sem_", LOCKS),
+        ("pthread_", THREADS),
+        ("thrd_", THREADS),
+        ("cnd_", THREADS),
+        ("atomic_", SHARED),
+        ("__atomic_", SHARED),
+        ("__sync_", SHARED),
     ];
     &ROWS
 }
@@ -188,15 +220,31 @@ pub(crate) fn of_unknown(name: &str) -> Option<&'static str> {
     }
 }
 
-/// What is told of a token by the beginning of its name.
-pub(crate) fn of_beginning(kind: Option<Kind<'_>>) -> Option<&'static str> {
+/// What is told of a token by the beginning of its name, which the source declares nowhere.
+pub(crate) fn of_beginning(tokens: &[Token<'_>], kind: Option<Kind<'_>>) -> Option<&'static str> {
     let Some(Kind::Name(name)) = kind else {
         return None;
     };
+    if next_declaration(tokens, name, 0).is_some() {
+        return None;
+    }
     'rows: for row in beginnings() {
         if name.starts_with(row.0) {
             return Some(row.1);
         }
     }
     None
+}
+
+/// What is told of a call by the token of its function's name, which the source declares nowhere.
+pub(crate) fn of_called(tokens: &[Token<'_>], kind: Option<Kind<'_>>) -> Option<&'static str> {
+    match kind {
+        Some(Kind::Name(name)) if next_declaration(tokens, name, 0).is_none() => {
+            match of_unknown(name) {
+                Some(words) => Some(words),
+                None => of_beginning(tokens, kind),
+            }
+        }
+        _ => None,
+    }
 }

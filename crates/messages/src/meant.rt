@@ -1,8 +1,9 @@
 //! What is told of an unexpected token: by what it is, and by what stands before it.
 
-use crate::foreign::{of_foreign, of_reserved};
+use crate::foreign::{of_beginning, of_called, of_foreign, of_reserved};
 use crate::tokens::{
-    is_punctuator, is_type, kind_at, kind_before, kind_up, offset_at, open_bracket,
+    behind_brackets, is_punctuator, is_type, kind_at, kind_before, kind_behind, kind_up, offset_at,
+    open_bracket,
 };
 use lex::token::{Keyword, Kind, Punctuator, Token};
 
@@ -34,7 +35,7 @@ enum Class {
 type Row = ([Class; 4], &'static str);
 
 const ATTRIBUTES: &str =
-    "the attributes are transaction_safe and transaction_unsafe of a function, and outer of a transaction";
+    "the attributes are transaction_safe, transaction_unsafe and transaction_callable of a function, and outer of a transaction";
 
 const VOID: &str =
     "no variable is void: it stands before a function's name, or by itself where a function has no parameters";
@@ -42,6 +43,8 @@ const VOID: &str =
 const LONG: &str = "long stands in long long alone, which is signed";
 
 const NO_POINTERS: &str = "there are no pointers: a function returns a value, or sets a global";
+
+const PARAMETER: &str = "a parameter has a type, as in int f(int a)";
 
 const COMPARISONS: &str = "the comparisons are <, >, <=, >=, == and !=";
 
@@ -57,7 +60,7 @@ fn pairs() -> &'static [Row] {
         Assign, CloseBracket, Colon, Comma, Greater, Less, Minus, OpenBrace, OpenBracket,
         OpenParen, Star,
     };
-    static ROWS: [Row; 23] = [
+    static ROWS: [Row; 26] = [
         (
             [Word(Attribute), Sign(OpenParen), Sign(OpenParen), Any],
             ATTRIBUTES,
@@ -66,9 +69,15 @@ fn pairs() -> &'static [Row] {
         ([Any, Word(Void), Name, Any], VOID),
         ([Any, Any, Word(Void), Name], VOID),
         ([Any, Any, Border, Word(Void)], VOID),
+        ([Type, Name, Sign(OpenParen), Name], PARAMETER),
+        ([Type, Name, Sign(Comma), Name], PARAMETER),
         (
-            [Type, Name, Sign(OpenParen), Name],
-            "a parameter has a type, as in int f(int a)",
+            [Any, Name, Sign(OpenParen), Word(Void)],
+            "a call without arguments has empty brackets: f()",
+        ),
+        (
+            [Any, Any, Sign(OpenParen), Word(Void)],
+            "a cast is to int, unsigned or long long: a value that is not used wants none",
         ),
         ([Any, Border, Name, Sign(Colon)], "there are no labels"),
         ([Any, Any, Word(Long), Name], "write long long"),
@@ -249,11 +258,69 @@ fn of_body(tokens: &[Token<'_>], number: usize) -> Option<&'static str> {
     }
     match called_before(tokens, number)? {
         Kind::Name("elif" | "elseif" | "elsif") => Some("write else if"),
+        Kind::Name(_) if open_bracket(tokens, number).is_none() => {
+            Some("a parameter has a type and a name, as in int f(int a) { .. }")
+        }
         Kind::Keyword(Keyword::Atomic) => Some(
             "a transaction has no condition: write if in its block, or round it",
         ),
         _ => None,
     }
+}
+
+/// Whether the token of a number begins a statement or a declaration, or a text.
+fn is_first(tokens: &[Token<'_>], number: usize) -> bool {
+    match kind_before(tokens, number) {
+        None => true,
+        before => is_of(before, Class::Border),
+    }
+}
+
+/// What is told of the token of a number by the beginning of its name, where a declaration may begin.
+fn of_first(tokens: &[Token<'_>], number: usize) -> Option<&'static str> {
+    if is_first(tokens, number) {
+        of_beginning(tokens, kind_at(tokens, number))
+    } else {
+        None
+    }
+}
+
+/// What is told of the token of a number where it is the name of a function without a type.
+fn of_untyped(tokens: &[Token<'_>], number: usize) -> Option<&'static str> {
+    let is_called = is_of(kind_at(tokens, number), Class::Name)
+        && is_punctuator(kind_behind(tokens, number), Punctuator::OpenParen);
+    if !is_called || !is_first(tokens, number) || open_bracket(tokens, number).is_some() {
+        return None;
+    }
+    let behind = behind_brackets(tokens, number.saturating_add(1))?;
+    if is_punctuator(kind_at(tokens, behind), Punctuator::OpenBrace) {
+        Some("a function has its result's type in front, or void, as in int f(int a) { .. }")
+    } else {
+        None
+    }
+}
+
+/// What is told of an address or a type among the arguments of a call, by the name of what is called.
+fn of_argument(tokens: &[Token<'_>], number: usize) -> Option<&'static str> {
+    let kind = kind_at(tokens, number);
+    let is_asked = is_punctuator(kind, Punctuator::And) || is_type(kind);
+    if !is_asked || !is_within(tokens, number, Punctuator::OpenParen) {
+        return None;
+    }
+    of_called(tokens, kind_before(tokens, open_bracket(tokens, number)?))
+}
+
+/// Whether two colons stand one behind the other from the token of a number on.
+fn has_colons(tokens: &[Token<'_>], number: usize) -> bool {
+    is_punctuator(kind_at(tokens, number), Punctuator::Colon)
+        && is_punctuator(kind_behind(tokens, number), Punctuator::Colon)
+}
+
+/// Whether the token of a number is one of two colons, or stands before them.
+fn is_scoped(tokens: &[Token<'_>], number: usize) -> bool {
+    has_colons(tokens, number.saturating_sub(1))
+        || has_colons(tokens, number)
+        || has_colons(tokens, number.saturating_add(1))
 }
 
 /// Whether the token of a number is the bracket behind a function's name, within another function.
@@ -321,11 +388,17 @@ pub(crate) fn of_token(text: &str, tokens: &[Token<'_>], number: usize) -> Optio
         let span = tokens.get(number)?.span;
         return Some(of_reserved(text.get(span.start..span.end).unwrap_or("")));
     }
+    if is_scoped(tokens, number) {
+        return Some("there is no ::, and the only function of C's library is printf");
+    }
     let told = [
         of_body(tokens, number),
         of_foreign(tokens, kind),
         of_foreign(tokens, kind_before(tokens, number)),
+        of_argument(tokens, number),
         of_pairs(tokens, number),
+        of_first(tokens, number),
+        of_untyped(tokens, number),
     ];
     'told: for words in told {
         if words.is_some() {

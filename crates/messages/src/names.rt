@@ -41,7 +41,7 @@ fn near<'t, A: Allocator + Copy>(
         Some(line) => Some(line),
         None => near_word(alloc, tokens, kind)?,
     };
-    Ok(match (near, of_beginning(kind)) {
+    Ok(match (near, of_beginning(tokens, kind)) {
         (Some(line), _) => line,
         (None, Some(words)) => Line::Words(words),
         (None, None) => Line::Words("it is declared nowhere"),

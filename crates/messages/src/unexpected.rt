@@ -71,7 +71,7 @@ fn near_words<A: Allocator + Copy>(
             return Ok(told);
         }
     }
-    Ok(match of_beginning(before) {
+    Ok(match of_beginning(tokens, before) {
         Some(words) => Some(Line::Words(words)),
         None => None,
     })

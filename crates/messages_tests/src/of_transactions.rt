@@ -177,7 +177,7 @@ fn rows() -> &'static [Row] {
         (
             "void worker(int self) { __transaction_atomic [[inner]] { } }",
             "10 at 1:48",
-            "the attributes are transaction_safe and transaction_unsafe of a function, and outer of a transaction\n",
+            "the attributes are transaction_safe, transaction_unsafe and transaction_callable of a function, and outer of a transaction\n",
         ),
         (
             "void worker(int self) { __transaction_atomic { __transaction_cancel [[outer]]; } }",

@@ -87,7 +87,7 @@ fn rows() -> &'static [Row] {
         (
             "void worker(int self) { auto a = 1; }",
             "10 at 1:25",
-            "there is no such word here: leave it out\nexpected '}', a declaration or a statement\n",
+            "there is no auto: write int, unsigned or long long in its place\nexpected '}', a declaration or a statement\n",
         ),
         (
             "void worker(int self) { let a = 1; }",
@@ -273,22 +273,22 @@ fn rows() -> &'static [Row] {
         (
             "__attribute__((noinline)) int f(void) { return 1; }",
             "10 at 1:16",
-            "the attributes are transaction_safe and transaction_unsafe of a function, and outer of a transaction\n",
+            "the attributes are transaction_safe, transaction_unsafe and transaction_callable of a function, and outer of a transaction\n",
         ),
         (
             "[[noreturn]] void f(void) { }",
             "10 at 1:3",
-            "the attributes are transaction_safe and transaction_unsafe of a function, and outer of a transaction\n",
+            "the attributes are transaction_safe, transaction_unsafe and transaction_callable of a function, and outer of a transaction\n",
         ),
         (
             "int f(void) __attribute__((pure));",
             "10 at 1:28",
-            "the attributes are transaction_safe and transaction_unsafe of a function, and outer of a transaction\n",
+            "the attributes are transaction_safe, transaction_unsafe and transaction_callable of a function, and outer of a transaction\n",
         ),
         (
             "__attribute__((transaction_pure)) int f(void);",
             "10 at 1:16",
-            "the attributes are transaction_safe and transaction_unsafe of a function, and outer of a transaction\n",
+            "the attributes are transaction_safe, transaction_unsafe and transaction_callable of a function, and outer of a transaction\n",
         ),
         (
             "__attribute__((transaction_callable)) int f(void);",
@@ -298,17 +298,17 @@ fn rows() -> &'static [Row] {
         (
             "__attribute__ ((unused)) int x;",
             "10 at 1:17",
-            "the attributes are transaction_safe and transaction_unsafe of a function, and outer of a transaction\n",
+            "the attributes are transaction_safe, transaction_unsafe and transaction_callable of a function, and outer of a transaction\n",
         ),
         (
             "__attribute__((transaction_saf)) int f(void);",
             "10 at 1:16",
-            "the attributes are transaction_safe and transaction_unsafe of a function, and outer of a transaction\n",
+            "the attributes are transaction_safe, transaction_unsafe and transaction_callable of a function, and outer of a transaction\n",
         ),
         (
             "[[nodiscard]] int f(void);",
             "10 at 1:3",
-            "the attributes are transaction_safe and transaction_unsafe of a function, and outer of a transaction\n",
+            "the attributes are transaction_safe, transaction_unsafe and transaction_callable of a function, and outer of a transaction\n",
         ),
         (
             "__attribute__(transaction_safe) int f(void);",
@@ -329,7 +329,270 @@ fn rows() -> &'static [Row] {
     &ROWS
 }
 
+/// Words of threads, of C++ and of C's library, and functions and parameters without a type or a name.
+fn more_rows() -> &'static [Row] {
+    static ROWS: [Row; 51] = [
+        (
+            "int f(int n, ...) { return n; }",
+            "01 at 1:14",
+            "there is no ...: a function has a fixed number of parameters\n",
+        ),
+        (
+            "void worker(int self) { try { } catch (...) { } }",
+            "01 at 1:40",
+            "there is no ...: a function has a fixed number of parameters\n",
+        ),
+        (
+            "void worker(int self) { std::cout << 1; }",
+            "10 at 1:28",
+            "there is no ::, and the only function of C's library is printf\nexpected ';', '(', '[', an assignment or an operator\n",
+        ),
+        (
+            "void worker(int self) { self = std::max(self, 1); }",
+            "10 at 1:35",
+            "there is no ::, and the only function of C's library is printf\nexpected ';', '(', '[' or an operator\n",
+        ),
+        (
+            "void worker(int self) { self = self ? std::max(self, 1) : 2; }",
+            "10 at 1:43",
+            "there is no ::, and the only function of C's library is printf\nexpected an expression\n",
+        ),
+        (
+            "std::mutex m;",
+            "10 at 1:1",
+            "there is no ::, and the only function of C's library is printf\nexpected a declaration\n",
+        ),
+        (
+            "using namespace std;",
+            "10 at 1:1",
+            "the only function of C's library is printf\nexpected a declaration\n",
+        ),
+        (
+            "int m;\nvoid worker(int self) { pthread_mutex_lock(&m); }",
+            "10 at 2:44",
+            "there are no locks: write __transaction_atomic { .. } round what is shared\nexpected ')' or an expression\n",
+        ),
+        (
+            "int m;\nvoid worker(int self) { pthread_mutex_lock(m); }",
+            "20 at 2:25",
+            "there are no locks: write __transaction_atomic { .. } round what is shared\n",
+        ),
+        (
+            "int m;\nvoid worker(int self) { mtx_lock(&m); }",
+            "10 at 2:34",
+            "there are no locks: write __transaction_atomic { .. } round what is shared\nexpected ')' or an expression\n",
+        ),
+        (
+            "int s;\nvoid worker(int self) { sem_wait(&s); }",
+            "10 at 2:34",
+            "there are no locks: write __transaction_atomic { .. } round what is shared\nexpected ')' or an expression\n",
+        ),
+        (
+            "int x;\nvoid worker(int self) { atomic_fetch_add(&x, 1); }",
+            "10 at 2:42",
+            "a shared variable is a plain global: use it in __transaction_atomic { .. }\nexpected ')' or an expression\n",
+        ),
+        (
+            "int x;\nvoid worker(int self) { atomic_fetch_add(x, 1); }",
+            "20 at 2:25",
+            "a shared variable is a plain global: use it in __transaction_atomic { .. }\n",
+        ),
+        (
+            "int x;\nvoid worker(int self) { self = __sync_fetch_and_add(&x, 1); }",
+            "10 at 2:53",
+            "a shared variable is a plain global: use it in __transaction_atomic { .. }\nexpected ')' or an expression\n",
+        ),
+        (
+            "int x;\nvoid worker(int self) { self = __atomic_load_n(&x, 5); }",
+            "10 at 2:48",
+            "a shared variable is a plain global: use it in __transaction_atomic { .. }\nexpected ')' or an expression\n",
+        ),
+        (
+            "int t;\nvoid worker(int self) { pthread_create(&t, 0, self, 0); }",
+            "10 at 2:40",
+            "threads come of --threads T, and transactions are their locks\nexpected ')' or an expression\n",
+        ),
+        (
+            "int x;\nvoid worker(int self) { free(&x); }",
+            "10 at 2:30",
+            "the only function of C's library is printf\nexpected ')' or an expression\n",
+        ),
+        (
+            "void atomic_add(int a) { }\nint x;\nvoid worker(int self) { atomic_add(&x); }",
+            "10 at 3:36",
+            "there are no pointers: a function returns a value, or sets a global\nexpected ')' or an expression\n",
+        ),
+        (
+            "pthread_mutex_t m;",
+            "10 at 1:1",
+            "there are no locks: write __transaction_atomic { .. } round what is shared\nexpected a declaration\n",
+        ),
+        (
+            "void worker(int self) { pthread_mutex_t m; }",
+            "10 at 1:41",
+            "there are no locks: write __transaction_atomic { .. } round what is shared\nexpected ';', '(', '[', an assignment or an operator\n",
+        ),
+        (
+            "mtx_t m;",
+            "10 at 1:1",
+            "there are no locks: write __transaction_atomic { .. } round what is shared\nexpected a declaration\n",
+        ),
+        (
+            "sem_t s;",
+            "10 at 1:1",
+            "there are no locks: write __transaction_atomic { .. } round what is shared\nexpected a declaration\n",
+        ),
+        (
+            "pthread_rwlock_t m;",
+            "10 at 1:1",
+            "there are no locks: write __transaction_atomic { .. } round what is shared\nexpected a declaration\n",
+        ),
+        (
+            "pthread_t t;",
+            "10 at 1:1",
+            "threads come of --threads T, and transactions are their locks\nexpected a declaration\n",
+        ),
+        (
+            "thrd_t t;",
+            "10 at 1:1",
+            "threads come of --threads T, and transactions are their locks\nexpected a declaration\n",
+        ),
+        (
+            "atomic_int x;",
+            "10 at 1:1",
+            "a shared variable is a plain global: use it in __transaction_atomic { .. }\nexpected a declaration\n",
+        ),
+        (
+            "_Atomic int x;",
+            "10 at 1:1",
+            "a shared variable is a plain global: use it in __transaction_atomic { .. }\nexpected a declaration\n",
+        ),
+        (
+            "_Atomic(int) x;",
+            "10 at 1:1",
+            "a shared variable is a plain global: use it in __transaction_atomic { .. }\nexpected a declaration\n",
+        ),
+        (
+            "void worker(int self) { _Atomic(int) x; }",
+            "10 at 1:33",
+            "a shared variable is a plain global: use it in __transaction_atomic { .. }\nexpected ')' or an expression\n",
+        ),
+        (
+            "atomic_bool b;",
+            "10 at 1:1",
+            "a shared variable is a plain global: use it in __transaction_atomic { .. }\nexpected a declaration\n",
+        ),
+        (
+            "atomic_llong l;",
+            "10 at 1:1",
+            "a shared variable is a plain global: use it in __transaction_atomic { .. }\nexpected a declaration\n",
+        ),
+        (
+            "int sum(atomic_int a) { return 1; }",
+            "10 at 1:9",
+            "a shared variable is a plain global: use it in __transaction_atomic { .. }\nexpected ')' or a declaration\n",
+        ),
+        (
+            "thread_local int x;",
+            "10 at 1:1",
+            "all threads share each global: what is one thread's own is a local variable\nexpected a declaration\n",
+        ),
+        (
+            "_Thread_local int x;",
+            "10 at 1:1",
+            "all threads share each global: what is one thread's own is a local variable\nexpected a declaration\n",
+        ),
+        (
+            "void worker(int self) { __thread int x; }",
+            "10 at 1:34",
+            "all threads share each global: what is one thread's own is a local variable\nexpected ';', '(', '[', an assignment or an operator\n",
+        ),
+        (
+            "FILE *f;",
+            "10 at 1:1",
+            "the only function of C's library is printf\nexpected a declaration\n",
+        ),
+        (
+            "void worker(int self) { (void)self; }",
+            "10 at 1:26",
+            "a cast is to int, unsigned or long long: a value that is not used wants none\nexpected a declaration or an expression\n",
+        ),
+        (
+            "void f(void) { }\nvoid worker(int self) { f(void); }",
+            "10 at 2:27",
+            "a call without arguments has empty brackets: f()\nexpected ')' or an expression\n",
+        ),
+        (
+            "f() { }",
+            "10 at 1:1",
+            "a function has its result's type in front, or void, as in int f(int a) { .. }\nexpected a declaration\n",
+        ),
+        (
+            "int x;\nf(int a) { return a; }",
+            "10 at 2:1",
+            "a function has its result's type in front, or void, as in int f(int a) { .. }\nexpected a declaration\n",
+        ),
+        (
+            "worker(int self) { }",
+            "10 at 1:1",
+            "a function has its result's type in front, or void, as in int f(int a) { .. }\nexpected a declaration\n",
+        ),
+        (
+            "void worker(int) { }",
+            "10 at 1:18",
+            "a parameter has a type and a name, as in int f(int a) { .. }\nexpected ';' or '['\n",
+        ),
+        (
+            "void worker(int, int b) { }",
+            "10 at 1:25",
+            "a parameter has a type and a name, as in int f(int a) { .. }\nexpected ';' or '['\n",
+        ),
+        (
+            "int f(int a, b) { return a; }",
+            "10 at 1:14",
+            "a parameter has a type, as in int f(int a)\nexpected a declaration\n",
+        ),
+        (
+            "auto x = 1;",
+            "10 at 1:1",
+            "there is no auto: write int, unsigned or long long in its place\nexpected a declaration\n",
+        ),
+        (
+            "int x = 1\natomic_llong y;",
+            "10 at 2:1",
+            "expected ';' or ','\na ';' may be missing at 1:10\n",
+        ),
+        (
+            "int atomic_count;\nvoid worker(int self) { atomic_count 5; }",
+            "10 at 2:38",
+            "expected ';', '(', '[', an assignment or an operator\n",
+        ),
+        ("f();", "10 at 1:1", "expected a declaration\n"),
+        (
+            "__attribute__((transaction_callabl)) int f(void);",
+            "10 at 1:16",
+            "the attributes are transaction_safe, transaction_unsafe and transaction_callable of a function, and outer of a transaction\n",
+        ),
+        (
+            "pthread_cond_t c;",
+            "10 at 1:1",
+            "threads come of --threads T, and transactions are their locks\nexpected a declaration\n",
+        ),
+        (
+            "void worker(int self) { thrd_create(self); }",
+            "20 at 1:25",
+            "threads come of --threads T, and transactions are their locks\n",
+        ),
+    ];
+    &ROWS
+}
+
 #[test]
 fn words_are_told(rt: HostRuntime) {
     assert_none(&rt, told_otherwise(rt.alloc(), rows()));
+}
+
+#[test]
+fn more_words_are_told(rt: HostRuntime) {
+    assert_none(&rt, told_otherwise(rt.alloc(), more_rows()));
 }

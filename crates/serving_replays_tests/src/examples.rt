@@ -483,7 +483,7 @@ fn second_transcripts() -> &'static [Transcript] {
             b"",
             b"",
             b"",
-            b"budget: the steps are used up\nWhen: `txc run` was told `--budget B`, and the thread wants more than B steps: it waits in a loop for what no other thread does, or B is too small\nExample: `txc run FILE --budget 50` of `while (1) ;`\n",
+            b"budget: the steps are used up\nWhen: the thread wants more steps than the B of `txc run --budget B`, or than 4,294,967,295 where nothing is said: it waits in a loop for what no other thread does, or B is too small\nExample: `txc run FILE --budget 50` of `while (1) ;`\n",
         ),
         (
             "txc explain trap 3",
