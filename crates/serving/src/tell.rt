@@ -182,7 +182,12 @@ impl<E: Write> Teller<'_, E> {
     pub(crate) fn too_long<A: Allocator + Copy>(&mut self, alloc: A) -> u8
         ensures { result ≡ 1 }
     {
-        self.tell_fault(alloc, "", 5, Span { start: 0, end: 0 });
+        let span = Span { start: 0, end: 0 };
+        self.tell_fault(alloc, "", 5, span);
+        if self.detail.lines {
+            show_hints(alloc, "", 5, span, self.err);
+            show_where_more(5, self.err);
+        }
         REFUSED
     }
 

@@ -392,15 +392,24 @@ fn explains_faults(rt: HostRuntime) {
     assert!(rt; answers(&rt, rt.alloc(), "txc explain 07", b"", b"", false, unknown));
 }
 
-/// Whether a file of so many bytes, of which none is a character's, is answered so.
+/// Whether a file of so many bytes, of which none is a character's, is answered so, to a terminal or not.
 fn no_text_is_told<H: Threads + Wait + Sync>(
     rt: &H,
     alloc: Global,
     count: usize,
+    is_terminal: bool,
     wanted: ServeResult,
 ) -> bool {
     match b"\xff".as_slice().repeat(alloc, count) {
-        Ok(source) => runs_to(rt, alloc, source.as_slice(), wanted),
+        Ok(source) => answers(
+            rt,
+            alloc,
+            "txc run a.c",
+            source.as_slice(),
+            b"",
+            is_terminal,
+            wanted,
+        ),
         Err(_) => false,
     }
 }
@@ -409,10 +418,14 @@ fn no_text_is_told<H: Threads + Wait + Sync>(
 #[test]
 fn a_long_file_that_is_not_utf8_is_told(rt: HostRuntime) {
     let no_text = (2, b"".as_slice(), b"txc: a.c is not UTF-8\n".as_slice());
-    assert!(rt; no_text_is_told(&rt, rt.alloc(), 1_048_576, no_text));
+    assert!(rt; no_text_is_told(&rt, rt.alloc(), 1_048_576, false, no_text));
     let told = b"txc: fault 05 at 1:1: file too long\n";
     let too_long = (1, b"".as_slice(), told.as_slice());
-    assert!(rt; no_text_is_told(&rt, rt.alloc(), 1_048_577, too_long));
+    assert!(rt; no_text_is_told(&rt, rt.alloc(), 1_048_577, false, too_long));
+    let hinted =
+        b"txc: fault 05 at 1:1: file too long\na source has at most 1,048,576 bytes\ntxc explain 05 says more\n";
+    let in_full = (1, b"".as_slice(), hinted.as_slice());
+    assert!(rt; no_text_is_told(&rt, rt.alloc(), 1_048_577, true, in_full));
 }
 
 /// Whether this is told of a run that is refused, to a terminal or not.
