@@ -1,17 +1,20 @@
 #!/usr/bin/env python3
-"""Writes crates/serving_replays_tests/src/examples.rt. It runs each program of examples/, examples/against/ and
-examples/bench/ and compares what it prints with the file of the same name that ends in .out, and whether it is warned
-of with WARNED; and it runs each transcript of examples/transcripts/, a file whose first line is a command line,
-`$ txc ..`, and which has under it what a terminal then shows. And it writes
-crates/lower_tests/src/of_meaning/examples.rt, which runs each program of examples/ from its tree and compares with the
-same file, and crates/lower_tests/src/of_lower/examples.rt, which lists the programs of examples/ and demands a code of
-each.
+"""Holds three files of tests, and documents, to examples/.
 
-With --check it writes nothing, and fails where one of the three is not what it would write, or where a document shows
-what the program does not print: a block that begins with `$ txc run examples/NAME.c` has NAME.out under it, any other
-one that begins with `$ txc` is a transcript, README.md shows the output of first.c in a block of its own, and the C
-that it and GUIDE.md show is that of files of examples/, and the schedules that GUIDE.md shows are those of
-examples/schedules/.
+  scripts/examples.py           fails where one of the files is not what --write writes, or where a document shows what
+                                the program does not print
+  scripts/examples.py --write   writes the files
+
+crates/serving_replays_tests/src/examples.rt runs each program of examples/, examples/against/ and examples/bench/ and
+compares what it prints with the file of the same name that ends in .out, and whether it is warned of with WARNED; and
+it runs each transcript of examples/transcripts/, a file whose first line is a command line, `$ txc ..`, and which has
+under it what a terminal then shows. crates/lower_tests/src/of_meaning/examples.rt runs each program of examples/ from
+its tree and compares with the same file; crates/lower_tests/src/of_lower/examples.rt lists the programs of examples/
+and demands a code of each.
+
+In a document a block that begins with `$ txc run examples/NAME.c` has NAME.out under it, any other one that begins with
+`$ txc` is a transcript, README.md shows the output of first.c in a block of its own, and the C that it and GUIDE.md
+show is that of files of examples/, and the schedules that GUIDE.md shows are those of examples/schedules/.
 """
 
 import glob
@@ -19,7 +22,8 @@ import os
 import re
 import sys
 
-TOP = os.path.dirname(os.path.dirname(os.path.abspath(__file__)))
+from words import TOP, asked
+
 TESTS = os.path.join(TOP, "crates/serving_replays_tests/src/examples.rt")
 MEANING_TESTS = os.path.join(TOP, "crates/lower_tests/src/of_meaning/examples.rt")
 LOWER_TESTS = os.path.join(TOP, "crates/lower_tests/src/of_lower/examples.rt")
@@ -357,14 +361,15 @@ fn each_example_has_code(rt: HostRuntime) {{
 
 
 def main():
+    given = asked(__doc__, "--write")
     written = {TESTS: tests(), MEANING_TESTS: meaning_tests(), LOWER_TESTS: lower_tests()}
-    if sys.argv[1:] != ["--check"]:
+    if given.write:
         for path, text in written.items():
             with open(path, "w", encoding="utf-8") as file:
                 file.write(text)
         return 0
     wrong = [
-        f"{os.path.relpath(path, TOP)} is not what this script writes"
+        f"{os.path.relpath(path, TOP)} is not what scripts/examples.py --write writes"
         for path, text in written.items()
         if read(path) != text
     ]

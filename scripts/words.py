@@ -1,0 +1,63 @@
+"""The words of a script's command line, what the script says of itself as their help, and the program that they name."""
+
+import argparse
+import os
+import shutil
+import sys
+
+TOP = os.path.dirname(os.path.dirname(os.path.abspath(__file__)))
+BUILT = f"{TOP}/crates/txc/out/txc"
+
+
+def reader(says, **how):
+    """What reads the words of a script that says this of itself."""
+    form = argparse.RawDescriptionHelpFormatter
+    return argparse.ArgumentParser(description=says, formatter_class=form, allow_abbrev=False, **how)
+
+
+def asked(says, *arguments):
+    """What the words ask of a script that says this of itself. An argument is an option without a value, by its name, or
+    a name with how argparse takes it."""
+    words = reader(says)
+    for it in arguments:
+        name, how = (it, {"action": "store_true"}) if isinstance(it, str) else it
+        words.add_argument(name, **how)
+    return words.parse_args()
+
+
+def count(name, default, least=0):
+    """An argument that is a number, and need not be given."""
+
+    def number(text):
+        if not text.isdecimal() or int(text) < least:
+            raise argparse.ArgumentTypeError(f"{text} is no number from {least} on")
+        return int(text)
+
+    return name, {"nargs": "?", "type": number, "default": default, "metavar": name.upper(), "help": f"{default} if not given"}
+
+
+def program(path):
+    """The whole path of a program that is there."""
+    if not os.path.isfile(path):
+        raise argparse.ArgumentTypeError(f"{path} is not there: cd crates/txc && rt run -- --version")
+    return os.path.abspath(path)
+
+
+# An argument that is the program, and need not be given.
+TXC = "txc", {
+    "nargs": "?",
+    "type": program,
+    "default": os.environ.get("TXC") or BUILT,
+    "metavar": "TXC",
+    "help": "the program: if not given what $TXC names, or crates/txc/out/txc, which `cd crates/txc && rt run --"
+    " --version` builds; one of scripts/quick_build.py will do",
+}
+
+
+def txc():
+    """The program that $TXC names, or one that is found."""
+    for it in (os.environ.get("TXC"), BUILT, f"{TOP}/out/txc", shutil.which("txc")):
+        if it and os.path.isfile(it):
+            return it
+    print(f"{os.path.basename(sys.argv[0])}: there is no txc: scripts/quick_build.py makes one", file=sys.stderr)
+    sys.exit(2)
