@@ -40,8 +40,8 @@ import time
 from gcc_reports import memory_code, report_commands, report_file
 from orders import LeftOut, Orders, report_of
 from programs import WEIGHTS, Program, shrunk, text_of
+from words import TOP, reader, txc
 
-TOP = os.path.dirname(os.path.dirname(os.path.abspath(__file__)))
 GUIDE = f"{TOP}/docs/GUIDE.md"
 SHOWN = re.compile(r"^```\n\$ scripts/against_gcc\.py ([^\n]*)\n(.*?)^```$", re.M | re.S)
 VERSION = "12.2.0"
@@ -79,15 +79,6 @@ def read(path):
 def write(path, text):
     with open(path, "w", encoding="utf-8") as file:
         file.write(text)
-
-
-def txc():
-    """The program to judge by."""
-    found = [os.environ.get("TXC"), f"{TOP}/crates/txc/out/txc", f"{TOP}/out/txc", shutil.which("txc")]
-    for it in found:
-        if it and os.path.isfile(it):
-            return it
-    raise Unusable("there is no txc: scripts/quick_build.py makes one")
 
 
 # ---- what GCC makes of a program -------------------------------------------------------------------------------------
@@ -366,11 +357,7 @@ def hold_guide(version):
 
 def words(given=None):
     """The words of the command line."""
-    parser = argparse.ArgumentParser(
-        usage="against_gcc.py (FILE | --generate SEED | --guide) [OPTION..]",
-        description=__doc__,
-        formatter_class=argparse.RawDescriptionHelpFormatter,
-    )
+    parser = reader(__doc__, usage="against_gcc.py (FILE | --generate SEED | --guide) [OPTION..]")
     what = parser.add_mutually_exclusive_group(required=True)
     what.add_argument("file", nargs="?", metavar="FILE")
     what.add_argument("--generate", type=int, metavar="SEED", help="judges a program made by chance")

@@ -17,7 +17,6 @@ twenty times a second. Of a function, or of the functions of a cycle, these are 
 What has no part is definitions and lemmas. N is how many rows each table has (10).
 """
 
-import argparse
 import bisect
 import collections
 import os
@@ -27,7 +26,8 @@ import sys
 import tempfile
 import time
 
-from gate_cost import TOP, libraries
+from gate_cost import libraries
+from words import TOP, reader
 from wrong_bodies import words_of
 
 PARTS = "Lts|Proof|Answers|Tie|Goals|Code|Layout|Named|Reads|Kinds|Statement|Met|Key|Invariants"
@@ -101,7 +101,7 @@ def told(crate, folder, looks, most):
 
 
 def main():
-    words = argparse.ArgumentParser(description=__doc__, formatter_class=argparse.RawDescriptionHelpFormatter)
+    words = reader(__doc__)
     words.add_argument("--most", type=int, default=10, metavar="N")
     words.add_argument("crates", nargs="+", metavar="CRATE")
     given = words.parse_args()

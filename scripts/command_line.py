@@ -12,8 +12,9 @@ import os
 import re
 import sys
 
-TOP = os.path.dirname(os.path.dirname(os.path.abspath(__file__)))
-LINE, READ = f"{TOP}/crates/command/src/line.rt", f"{TOP}/crates/command/src/read.rt"
+from words import TOP, asked
+
+LINE = f"{TOP}/crates/command/src/line.rt"
 COMMANDS, EXPLANATIONS = f"{TOP}/docs/COMMANDS.md", f"{TOP}/crates/messages/src/explanations.rt"
 FUNCTION = re.compile(r"^(?:pub )?fn (\w+).*?^\{\n(.*?)^\}", re.M | re.S)
 TEXT = r'"((?:[^"\\]|\\.)*)"'
@@ -212,8 +213,7 @@ FORMS = {
 
 
 def main():
-    if sys.argv[1:] not in ([], ["--write"]):
-        sys.exit(__doc__)
+    given = asked(__doc__, "--write")
     program, commands = commands_of(read(LINE))
     differs = False
     for name, (head, form) in FORMS.items():
@@ -221,7 +221,7 @@ def main():
         first, _, rest = text.partition("\n")
         text = f"{first}\n{head}{rest}" if name == "_txc" else head + text
         path = f"{TOP}/share/{name}"
-        if sys.argv[1:]:
+        if given.write:
             os.makedirs(os.path.dirname(path), exist_ok=True)
             with open(path, "w", encoding="utf-8") as file:
                 file.write(text)

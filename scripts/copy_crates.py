@@ -10,13 +10,14 @@ FOLDER/crates.txt: their rows, and one of PROGRAM over the crates that are named
 import shutil
 import sys
 
-from gate_cost import TOP, below, libraries
+from gate_cost import below, libraries
+from words import TOP, asked
 
 
 def main():
-    if len(sys.argv) < 4:
-        sys.exit(__doc__)
-    folder, program, *named = sys.argv[1:]
+    crates_named = ("crates", {"nargs": "+", "metavar": "CRATE"})
+    given = asked(__doc__, ("folder", {"metavar": "FOLDER"}), ("program", {"metavar": "PROGRAM"}), crates_named)
+    folder, program, named = given.folder, given.program, given.crates
     crates = libraries()
     if unknown := [it for it in named if it not in crates]:
         sys.exit(f"crates.txt has no {', '.join(unknown)}")

@@ -1,15 +1,12 @@
 #!/usr/bin/env python3
 """Holds expressions of the three types of numbers, drawn by chance, against Python's numbers and against GCC.
 
-    scripts/expressions.py [COUNT [SEED [TXC]]]
+    scripts/expressions.py [COUNT [TXC [SEED]]]
 
-Each of COUNT programs (300) has six locals with values at the edges of their types, prints an expression over them, and
+Each of COUNT programs has six locals with values at the edges of their types, prints an expression over them, and
 stores it in two globals. `txc run` and `txc source` have to print the value that the rules of docs/LANGUAGE.md give
 here, in Python's numbers that have no bounds, or to end in the trap that they give. What does not trap is given to GCC
-too (`-fwrapv`), all in one program.
-
-TXC is the program, crates/txc/out/txc if it is not given, which `cd crates/txc && rt run -- --version` builds; the one
-of scripts/quick_build.py will do.
+too (`-fwrapv`), all in one program. SEED is where chance begins.
 """
 
 import collections
@@ -20,7 +17,8 @@ import subprocess
 import sys
 import tempfile
 
-TOP = os.path.dirname(os.path.dirname(os.path.abspath(__file__)))
+from words import TXC, asked, count
+
 INT, UNSIGNED, LONG_LONG = "int", "unsigned", "long long"
 TYPES = [INT, UNSIGNED, LONG_LONG]
 BITS = {INT: 32, UNSIGNED: 32, LONG_LONG: 64}
@@ -229,18 +227,15 @@ def hold_gcc(place, programs):
 
 
 def main():
-    count = int(sys.argv[1]) if len(sys.argv) > 1 else 300
-    chance = random.Random(int(sys.argv[2]) if len(sys.argv) > 2 else 1)
-    txc = os.path.abspath(sys.argv[3]) if len(sys.argv) > 3 else f"{TOP}/crates/txc/out/txc"
-    if not os.path.exists(txc):
-        sys.exit(f"{txc} is not there: `cd crates/txc && rt run -- --version` builds crates/txc/out/txc")
+    given = asked(__doc__, count("count", 300), TXC, count("seed", 1))
+    chance = random.Random(given.seed)
     with tempfile.TemporaryDirectory() as place:
-        programs = [found for found in (hold(txc, place, chance) for _ in range(count)) if found]
+        programs = [found for found in (hold(given.txc, place, chance) for _ in range(given.count)) if found]
         has_gcc = shutil.which("gcc") is not None
         if has_gcc:
             hold_gcc(place, programs)
     print(
-        f"{count} programs, of which {count - len(programs)} trap: `run` and `source` give what they should"
+        f"{given.count} programs, of which {given.count - len(programs)} trap: `run` and `source` give what they should"
         + (", and GCC the same" if has_gcc else "")
     )
 

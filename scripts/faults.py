@@ -20,7 +20,8 @@ import os
 import re
 import sys
 
-TOP = os.path.dirname(os.path.dirname(os.path.abspath(__file__)))
+from words import TOP, asked
+
 WORKER = "void worker(int self) {"
 EXPLANATIONS = "crates/messages/src/explanations.rt"
 TEXT = r'"((?:[^"\\]|\\.)*)"'
@@ -209,7 +210,7 @@ def wrong_warnings():
 
 
 def main():
-    if sys.argv[1:] == ["--write"]:
+    if asked(__doc__, "--write").write:
         with open(os.path.join(TOP, EXPLANATIONS), "w", encoding="utf-8") as file:
             file.write(explanations(read("docs/FAULTS.md")))
         return 0

@@ -20,10 +20,9 @@ folders (those that have none are proved first, outside of the measurement), wit
 their statements alone. Its sources end in one line more there, since a check begins with what others on the machine
 keep of the same files.
 Seconds are of processor, over all processes; memory is the most that any one process held. --jobs N is how many jobs a
-check gets (2).
+check gets (2). What its checks say stands in out/gate_cost_CRATE.log.
 """
 
-import argparse
 import csv
 import datetime
 import os
@@ -35,7 +34,8 @@ import sys
 import tempfile
 import time
 
-TOP = os.path.dirname(os.path.dirname(os.path.abspath(__file__)))
+from words import TOP, reader
+
 CSV = f"{TOP}/docs/gate_cost.csv"
 PAGE = f"{TOP}/docs/GATE.md"
 FIELDS = ["crate", "commit", "date", "check_s", "tests_s", "wrong_bodies", "wrong_s", "peak_mb"]
@@ -43,7 +43,7 @@ BEGIN, END = "<!-- measured: begin -->\n", "<!-- measured: end -->\n"
 
 
 def libraries():
-    """The crates of crates.txt, each with those of them that it names."""
+    """The crates of crates.txt, each with those of them that it stands on, in the order of the file."""
     named = {}
     with open(f"{TOP}/crates.txt", encoding="utf-8") as file:
         for line in file:
@@ -115,7 +115,8 @@ def measured(crate, parts, jobs):
             f"{TOP}/crates.txt", encoding="utf-8"
         ) as whole:
             file.writelines(it for it in whole if (re.split(r"[\s:]", it) or [""])[0] in [*needed, crate])
-        with open(f"/tmp/gate_cost_{crate}.log", "w", encoding="utf-8") as log:
+        os.makedirs(f"{TOP}/out", exist_ok=True)
+        with open(f"{TOP}/out/gate_cost_{crate}.log", "w", encoding="utf-8") as log:
             for it in needed:
                 if measure(["rt", "lib", "--jobs", str(jobs)], f"{room}/crates/{it}", log)[0]:
                     sys.exit(f"{it} is not proved: see {log.name}")
@@ -366,7 +367,7 @@ def write():
 
 
 def main():
-    words = argparse.ArgumentParser(description=__doc__, formatter_class=argparse.RawDescriptionHelpFormatter)
+    words = reader(__doc__)
     words.add_argument("crates", nargs="*")
     words.add_argument("--part", action="append", choices=["check", "tests", "wrong"])
     words.add_argument("--jobs", type=int, default=2)

@@ -4,8 +4,7 @@ prints a report that says something else than it does elsewhere.
 
   scripts/hostile.py [TXC]
 
-TXC is the program, crates/txc/out/txc if it is not given, which `cd crates/txc && rt run -- --version` builds; the one
-of scripts/quick_build.py will do. It takes less than a minute, and needs Linux, and `gcc` for the first part:
+It takes less than a minute, and needs Linux, and `gcc` for the first part:
 
   - each growth of each command refused in turn, by a library that is loaded before the system's and counts the calls of
     `malloc` and its kin: `txc: out of memory`, or fault 73 where a thread is not started, or a whole report in which a
@@ -27,7 +26,8 @@ import tempfile
 import threading
 from concurrent.futures import ThreadPoolExecutor
 
-TOP = os.path.dirname(os.path.dirname(os.path.abspath(__file__)))
+from words import TOP, TXC, asked
+
 MEBIBYTE = 1 << 20
 OUT_OF_MEMORY = b"txc: out of memory\n"
 
@@ -282,9 +282,7 @@ def little_space(txc):
 
 
 def main():
-    txc = os.path.abspath(sys.argv[1] if len(sys.argv) > 1 else f"{TOP}/crates/txc/out/txc")
-    if not os.path.isfile(txc):
-        sys.exit(f"{txc} is not there: cd crates/txc && rt run -- --version")
+    txc = asked(__doc__, TXC).txc
     with tempfile.TemporaryDirectory() as folder:
         os.chdir(folder)
         for name, (text, schedule, order) in PROGRAMS.items():

@@ -5,13 +5,11 @@ same counts whatever else the machine does.
     scripts/instruction_counts.py [TXC]
 
 Each workload of examples/bench is run with two numbers of turns; the difference, divided by how much more was done, is
-what one transaction, word or call takes, everything round it included. TXC is the program, crates/txc/out/txc if it is
-not given, which `cd crates/txc && rt run -- --version` builds.
+what one transaction, word or call takes, everything round it included.
 """
 import os, re, shutil, subprocess, sys, tempfile
 
-TOP = os.path.dirname(os.path.dirname(os.path.abspath(__file__)))
-TXC = os.path.abspath(sys.argv[1]) if sys.argv[1:] else os.path.join(TOP, 'crates', 'txc', 'out', 'txc')
+from words import TOP, TXC, asked
 
 
 def calls(n):
@@ -36,13 +34,13 @@ COUNTED = [
 ]
 
 
-def counted(text):
+def counted(txc, text):
     """How many instructions a run of this source takes."""
     with tempfile.TemporaryDirectory() as place:
         file = os.path.join(place, 'counted.c')
         with open(file, 'w', encoding='utf-8') as to:
             to.write(text)
-        words = ['valgrind', '--tool=callgrind', '--callgrind-out-file=/dev/null', TXC, 'run', file]
+        words = ['valgrind', '--tool=callgrind', '--callgrind-out-file=/dev/null', txc, 'run', file]
         ran = subprocess.run(words, stdout=subprocess.DEVNULL, stderr=subprocess.PIPE, text=True)
     found = re.search(r'Collected : (\d+)', ran.stderr)
     if ran.returncode or not found:
@@ -51,8 +49,7 @@ def counted(text):
 
 
 def main():
-    if not os.path.exists(TXC):
-        sys.exit(f'{TXC} is not there: `cd crates/txc && rt run -- --version` builds crates/txc/out/txc')
+    txc = asked(__doc__, TXC).txc
     if not shutil.which('valgrind'):
         sys.exit('valgrind is not installed')
     print('| What | Instructions |\n|---|---|')
@@ -64,8 +61,8 @@ def main():
         if text.count(place.format(number)) != 1:
             sys.exit(f'examples/bench/{name}.c has {place.format(number)} not once')
         more = (
-            counted(text.replace(place.format(number), place.format(many)))
-            - counted(text.replace(place.format(number), place.format(few)))
+            counted(txc, text.replace(place.format(number), place.format(many)))
+            - counted(txc, text.replace(place.format(number), place.format(few)))
         )
         print(f'| {what} | {round(more / (times(many) - times(few)))} |')
 

@@ -2,15 +2,14 @@
 """Prints how long txc takes for names that are meant to take long, beside others of the same length and number, and for
 long sums.
 
-    scripts/names_speed.py [ROUNDS]
+    scripts/names_speed.py [ROUNDS [TXC]]
 
 First `txc check` of a function with 31,000 locals, a source of 1 MiB: whose names all have one hash, where a hash
 multiplies eight bytes by eight with a constant and no key (behind such a beginning one factor is 0, whatever comes
 after), and as many others. txc's hash has a key that is made of all names of the source, so both are to take as long.
 Then `txc listing` of a function with 60,000 locals and 60,000 uses of one, the newest or the oldest, and of 1 MiB of
-sums, of 11 terms each and of 90, of globals, of locals and of constants. The program is
-crates/txc/out/txc, which `cd crates/txc && rt run -- --version` builds, or what TXC names; the figures are the least
-processor time of 5 rounds, where nothing is said.
+sums, of 11 terms each and of 90, of globals, of locals and of constants. The figures are the least processor time of
+the ROUNDS.
 """
 
 import os
@@ -18,8 +17,8 @@ import subprocess
 import sys
 import tempfile
 
-TOP = os.path.dirname(os.path.dirname(os.path.abspath(__file__)))
-TXC = os.environ.get("TXC", f"{TOP}/crates/txc/out/txc")
+from words import TXC, asked, count
+
 COLLIDING = "aaaaaaaaaaaaassTNo3qMD1o"
 OTHERS = "aaaaaaaaaaaaassTNo3qMD1_"
 
@@ -54,7 +53,7 @@ def used(words):
 
 
 def main():
-    rounds = int(sys.argv[1]) if len(sys.argv) > 1 else 5
+    given = asked(__doc__, count("rounds", 5, 1), TXC)
     sources = [
         ("check", "31,000 names of one hash", locals_of(COLLIDING)),
         ("check", "31,000 others", locals_of(OTHERS)),
@@ -71,7 +70,7 @@ def main():
             path = f"{folder}/{at}.c"
             with open(path, "w", encoding="ascii") as file:
                 file.write(text)
-            least = min(used([TXC, command, path]) for _ in range(rounds))
+            least = min(used([given.txc, command, path]) for _ in range(given.rounds))
             print(f"txc {command}, {says}: {len(text):,} bytes, {least:.2f} s")
 
 

@@ -4,11 +4,11 @@
 
     scripts/native_speed.py [ROUNDS [TXC]]
 
-All sides run in turn in each of the rounds (9, where nothing is said). It prints times of whole processes on the clock,
+All sides run in turn in each of the ROUNDS. It prints times of whole processes on the clock,
 the least of the rounds with one thread and the median with four, and means of their ratios: `native` with sequentially
 consistent accesses, `weak` with acquire and release. libitm runs by its method ml_wt, and by its default one. Then of
 runs with one thread and with four that wrote down their order: how many transactions, the time of the run, and time and
-memory of `txc certify`. TXC is the program, crates/txc/out/txc if it is not given.
+memory of `txc certify`.
 """
 
 import math
@@ -21,9 +21,10 @@ import tempfile
 import time
 
 import native
+from words import TOP, TXC, asked, count, txc
 
-BENCH = f"{native.TOP}/examples/bench"
-WORKLOADS = f"{native.TOP}/scripts/workloads"
+BENCH = f"{TOP}/examples/bench"
+WORKLOADS = f"{TOP}/scripts/workloads"
 SHARED = ["counter", "bank", "list", "hashset", "longread", "disjoint", "sieve"]
 BY_HAND = SHARED[:-1]
 SIDES = ["txc run", "native", "weak", "by hand", "ml_wt", "libitm"]
@@ -47,7 +48,7 @@ def sides(room, name, threads):
     """The command of each side, and its environment."""
     count, all_of = str(threads), {**os.environ}
     found = {
-        "txc run": ([native.txc(), "run", f"{BENCH}/{name}.c", "--threads", count], all_of),
+        "txc run": ([txc(), "run", f"{BENCH}/{name}.c", "--threads", count], all_of),
         "native": ([f"{room}/{name}", "--threads", count], all_of),
         "weak": ([f"{room}/{name}.weak", "--threads", count], all_of),
         "ml_wt": ([f"{room}/{name}.gcc", count], {**all_of, "ITM_DEFAULT_METHOD": "ml_wt"}),
@@ -97,7 +98,7 @@ def certificate(room, name, threads):
     if status:
         return print(f"| `{name}` | {threads} | status {status} |")
     many = native.read(order).replace(",", " ").split()
-    words = [native.txc(), "certify", f"{BENCH}/{name}.c", *count, "--order-file", order, "--report", report]
+    words = [txc(), "certify", f"{BENCH}/{name}.c", *count, "--order-file", order, "--report", report]
     start = time.perf_counter()
     told = subprocess.Popen(words, stdout=subprocess.PIPE, stderr=subprocess.STDOUT, preexec_fn=limited)
     said = told.stdout.read().decode().splitlines()
@@ -113,13 +114,13 @@ def limited():
 
 
 def main():
-    rounds = int(sys.argv[1]) if len(sys.argv) > 1 else 9
-    os.environ["TXC"] = os.path.abspath(sys.argv[2]) if len(sys.argv) > 2 else f"{native.TOP}/crates/txc/out/txc"
+    given = asked(__doc__, count("rounds", 9, 1), TXC)
+    os.environ["TXC"] = given.txc
     with tempfile.TemporaryDirectory(prefix="native-speed-") as room:
         built(room)
         for threads in (1, 4):
             print(f"\n{threads} threads, ms: {', '.join(SIDES)}")
-            rows = measured(room, rounds, threads)
+            rows = measured(room, given.rounds, threads)
             for over, under in RATIOS:
                 print(f"{over} / {under}: {mean(rows, over, under):.2f}")
         print("\ncertificates: threads, transactions, run in ms, certificate in s, MB, what it says")

@@ -7,9 +7,8 @@ a lock that is not looked at behind a read, a release before the stores, an `uns
 
     scripts/natives.py [PROGRAMS [TXC]]
 
-PROGRAMS is how many are drawn, 1,000 if it is not given. TXC is the program, crates/txc/out/txc if it is not given,
-which `cd crates/txc && rt run -- --version` builds; the one of scripts/quick_build.py will do. Left out, and counted,
-are runs that stop, and those for which `txc certify` has no memory.
+PROGRAMS is how many are drawn. Left out, and counted, are runs that stop, and those for which `txc certify` has no
+memory. A program of which a run is not certified is kept, as out/natives-SEED.c.
 """
 
 import collections
@@ -21,6 +20,7 @@ import tempfile
 
 import native
 from programs import WEIGHTS, Program, text_of
+from words import TOP, TXC, asked, count, txc
 
 # What `txc certify` says by its exit status.
 CERTIFIED, REFUTED = 0, 5
@@ -91,7 +91,7 @@ def is_certified(program, exe, threads):
         if ran.returncode not in (0, 3):
             return None, f"status {ran.returncode}"
         files = ["--order-file", order.name, "--report", report.name]
-        told = subprocess.run([native.txc(), "certify", program, *count, *files], capture_output=True)
+        told = subprocess.run([txc(), "certify", program, *count, *files], capture_output=True)
     if told.returncode not in (CERTIFIED, REFUTED):
         return None, f"no verdict: {told.stderr.decode().strip()}"
     return told.returncode == CERTIFIED, None
@@ -107,8 +107,9 @@ def hold(seed, room, came):
             certified, why = is_certified(program, f"{room}/program", threads)
             came["certified" if certified else f"left out ({why})" if certified is None else "not certified"] += 1
             if certified is False:
-                shutil.copy(program, f"/tmp/natives-{seed}.c")
-                print(f"seed {seed}, {threads} threads{', weak' * is_weak}: NOT CERTIFIED: /tmp/natives-{seed}.c")
+                os.makedirs(f"{TOP}/out", exist_ok=True)
+                shutil.copy(program, f"{TOP}/out/natives-{seed}.c")
+                print(f"seed {seed}, {threads} threads{', weak' * is_weak}: NOT CERTIFIED: out/natives-{seed}.c")
 
 
 def refused(name, room):
@@ -126,13 +127,13 @@ def refused(name, room):
 
 
 def main():
-    count = int(sys.argv[1]) if len(sys.argv) > 1 else 1000
-    os.environ["TXC"] = os.path.abspath(sys.argv[2]) if len(sys.argv) > 2 else f"{native.TOP}/crates/txc/out/txc"
+    given = asked(__doc__, count("programs", 1000), TXC)
+    os.environ["TXC"] = given.txc
     came = collections.Counter()
     with tempfile.TemporaryDirectory(prefix="natives-") as room:
-        for seed in range(1, count + 1):
+        for seed in range(1, given.programs + 1):
             hold(seed, room, came)
-        print(f"{count} programs: {', '.join(f'{many} runs {what}' for what, many in came.most_common())}")
+        print(f"{given.programs} programs: {', '.join(f'{many} runs {what}' for what, many in came.most_common())}")
         unseen = []
         for name in FAULTS:
             many = refused(name, room)

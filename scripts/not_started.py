@@ -5,16 +5,15 @@ can make that happen.
 
   scripts/not_started.py [TXC]
 
-TXC is the program, crates/txc/out/txc if it is not given, which `cd crates/txc && rt run -- --version` builds; the one
-of scripts/quick_build.py will do. One with the checks of `rt try` will not: these take more room than it is given.
+A program with the checks of `rt try` will not do: these take more room than it is given.
 """
 
-import os
 import resource
 import subprocess
 import sys
 
-TOP = os.path.dirname(os.path.dirname(os.path.abspath(__file__)))
+from words import TOP, TXC, asked
+
 MEBIBYTE = 1 << 20
 
 
@@ -25,10 +24,7 @@ def with_little_room():
 
 
 def main():
-    txc = sys.argv[1] if len(sys.argv) > 1 else f"{TOP}/crates/txc/out/txc"
-    if not os.path.isfile(txc):
-        sys.exit(f"{txc} is not there: cd crates/txc && rt run -- --version")
-    words = [txc, "run", f"{TOP}/examples/counter.c", "--threads", "64"]
+    words = [asked(__doc__, TXC).txc, "run", f"{TOP}/examples/counter.c", "--threads", "64"]
     done = subprocess.run(words, capture_output=True, text=True, check=False, preexec_fn=with_little_room)
     if (done.stdout, done.stderr[:13], done.returncode) != ("", "txc: fault 73", 4):
         sys.exit(f"status {done.returncode}: {done.stdout}{done.stderr}")

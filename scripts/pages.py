@@ -13,7 +13,9 @@ import os
 import re
 import sys
 
-TOP = os.path.dirname(os.path.dirname(os.path.abspath(__file__)))
+from gate_cost import libraries
+from words import TOP, asked
+
 BEGIN, END = "<!-- read from crates.txt and src: begin -->\n", "<!-- read from crates.txt and src: end -->\n"
 WORD = re.compile(r"`([A-Za-z_][A-Za-z0-9_]*(?:::[A-Za-z_][A-Za-z0-9_]*)*)(?:\(\))?`")
 # Words of pages that are no names of this repository.
@@ -23,16 +25,6 @@ OTHERS = {"usize", "None", "Ok", "clap", "indexmap", "usual"}
 def read(path):
     with open(os.path.join(TOP, path), encoding="utf-8") as file:
         return file.read()
-
-
-def libraries():
-    """The crates of crates.txt, each with those of the repository that it stands on, in the order of the file."""
-    named = {}
-    for line in read("crates.txt").splitlines():
-        crate, colon, below = line.partition("#")[0].partition(":")
-        if colon:
-            named[crate.split()[0]] = below.split()
-    return {crate: [it for it in below if it in named] for crate, below in named.items()}
 
 
 def exported(crate):
@@ -91,7 +83,7 @@ def options():
 
 
 def main():
-    named = libraries()
+    given, named = asked(__doc__, "--write"), libraries()
     wrong, words = [], None
     for crate in named:
         path = f"crates/{crate}/README.md"
@@ -106,7 +98,7 @@ def main():
         first, inner, last = cut
         now = generated(crate, named)
         if inner != now:
-            if sys.argv[1:] == ["--write"]:
+            if given.write:
                 with open(os.path.join(TOP, path), "w", encoding="utf-8") as file:
                     file.write(first + BEGIN + now + END + last)
             else:

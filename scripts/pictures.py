@@ -2,11 +2,10 @@
 """Holds pictures of replays against their timelines and their sources, and the pictures of the documents against what
 is drawn now.
 
-  scripts/pictures.py [SEEDS [TXC]]     each program of examples/ by so many seeds (20), with two to four threads
-  scripts/pictures.py --write [TXC]     draws the pictures of docs/pictures/ anew
+  scripts/pictures.py [SEEDS [TXC]]           each program of examples/ by so many seeds, with two to four threads
+  scripts/pictures.py --write [SEEDS [TXC]]   draws the pictures of docs/pictures/ anew, and replays nothing
 
-TXC is the program, crates/txc/out/txc if it is not given, which `cd crates/txc && rt run -- --version` builds; the one
-of scripts/quick_build.py will do. Of each picture it is shown that
+Of each picture it is shown that
 
   - it is XML;
   - its glyphs are titled by the lines of the timeline that have one: accesses, what happens, begins, ends and prints,
@@ -26,7 +25,8 @@ import subprocess
 import sys
 import xml.etree.ElementTree as xml
 
-TOP = os.path.dirname(os.path.dirname(os.path.abspath(__file__)))
+from words import TOP, TXC, asked, count
+
 SVG = "{http://www.w3.org/2000/svg}"
 MOST = 400
 LINE = re.compile(r"(\d+) (\d+) (.*)")
@@ -138,12 +138,8 @@ def differs(txc, file, words, first):
 
 
 def main():
-    write = "--write" in sys.argv
-    words = [word for word in sys.argv[1:] if word != "--write"]
-    seeds = int(words.pop(0)) if words and words[0].isdigit() else 20
-    txc = os.path.abspath(words[0]) if words else f"{TOP}/crates/txc/out/txc"
-    if not os.path.isfile(txc):
-        sys.exit(f"{txc} is not there: cd crates/txc && rt run -- --version")
+    given = asked(__doc__, "--write", count("seeds", 20), TXC)
+    txc = given.txc
     wrong = 0
     told = "".join(open(f"{TOP}/{page}", encoding="utf-8").read() for page in ("README.md", "docs/GUIDE.md"))
     for name, replay in SHOWN.items():
@@ -152,17 +148,17 @@ def main():
             print(f"no page says what draws docs/pictures/{name}: txc replay {replay} --picture > {name}")
         drawn = out_of(txc, "replay", *replay.split(), "--picture")
         path = f"{TOP}/docs/pictures/{name}"
-        if write:
+        if given.write:
             with open(path, "w", encoding="utf-8") as file:
                 file.write(drawn)
         elif open(path, encoding="utf-8").read() != drawn:
             wrong += 1
             print(f"docs/pictures/{name} is not what is drawn: scripts/pictures.py --write")
-    if write:
+    if given.write:
         return
     for path in sorted(glob.glob(f"{TOP}/examples/*.c")):
-        file, count = os.path.relpath(path, TOP), 0
-        for seed in range(1, seeds + 1):
+        file, shown_so = os.path.relpath(path, TOP), 0
+        for seed in range(1, given.seeds + 1):
             words = ["--threads", str(2 + seed % 3), "--seed", str(seed), "--steps", str(60 * seed)]
             for first in (0, 1 + 7 * seed):
                 why = differs(txc, file, words, first)
@@ -170,8 +166,8 @@ def main():
                     wrong += 1
                     print(f"{file}, seed {seed}, from {first}: the picture {why}")
                 else:
-                    count += 1
-        print(f"{file}: {count} pictures")
+                    shown_so += 1
+        print(f"{file}: {shown_so} pictures")
     sys.exit(wrong > 0)
 
 

@@ -13,18 +13,17 @@ whose tests failed, or were not all run, follows. Ends in status 1 where there i
 folder that is removed.
 """
 
-import argparse
 import os
 import re
 import resource
-import subprocess
 import sys
 import tempfile
 import time
 from concurrent.futures import ThreadPoolExecutor, as_completed
 
-from gate_cost import TOP, has_tests, libraries, measure
+from gate_cost import has_tests, libraries, measure
 from quick_build import copy_sources, kit, make_links
+from words import TOP, reader
 
 RESULT = re.compile(r"^test result: (ok\. )?.*$", re.M)
 # On the clock, for the tests of one crate once they are compiled: other work may be going on.
@@ -59,7 +58,7 @@ def tried(crate, work):
 
 
 def main():
-    words = argparse.ArgumentParser(description=__doc__, formatter_class=argparse.RawDescriptionHelpFormatter)
+    words = reader(__doc__)
     words.add_argument("--jobs", type=int, default=min(4, os.cpu_count() or 1))
     words.add_argument("crates", nargs="*", metavar="CRATE")
     given = words.parse_args()

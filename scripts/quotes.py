@@ -9,7 +9,8 @@ import os
 import re
 import sys
 
-TOP = os.path.dirname(os.path.dirname(os.path.abspath(__file__)))
+from words import TOP, asked
+
 QUOTATION = re.compile(r"^`(crates/[^`]+)`\n```(?:antt|rust)\n(.*?)^```$", re.M | re.S)
 
 
@@ -41,6 +42,7 @@ def missing(path, block):
 
 
 def main():
+    asked(__doc__)
     wrong = []
     count = 0
     for document in ["README.md", *sorted(glob.glob("docs/*.md", root_dir=TOP))]:

@@ -1,13 +1,10 @@
 #!/usr/bin/env python3
-"""Holds replays against the source: each program of examples/ is replayed by 200 seeds, with two to four threads, every
-other time cut off early. Where no thread has the lock at the end, its source is run in the order of the transactions
-that the replay tells of. Both have to leave the same memory; each thread has to have printed no more than there, and to
-be over in the same way if it is over.
+"""Holds replays against the source: each program of examples/ is replayed by SEEDS seeds, with two to four threads,
+every other time cut off early. Where no thread has the lock at the end, its source is run in the order of the
+transactions that the replay tells of. Both have to leave the same memory; each thread has to have printed no more than
+there, and to be over in the same way if it is over.
 
   scripts/replays.py [SEEDS [TXC]]
-
-TXC is the program, crates/txc/out/txc if it is not given, which `cd crates/txc && rt run -- --version` builds; the one
-of scripts/quick_build.py will do.
 
 The order is that of the events: each commit, each trap, and each cancel of an outermost transaction is one turn. A
 transaction that is cancelled may have found an earlier memory than that before its event, if others committed in
@@ -21,7 +18,8 @@ import re
 import subprocess
 import sys
 
-TOP = os.path.dirname(os.path.dirname(os.path.abspath(__file__)))
+from words import TOP, TXC, asked, count
+
 STEPS = 40_000
 REPORT = re.compile(r"(?:== events\n(?P<events>.*?))?(?P<threads>== thread .*?)== memory(?P<memory>.*)", re.S)
 THREAD = re.compile(r"^== thread \d+: (.*)\n((?:(?!== ).*\n)*)", re.M)
@@ -94,16 +92,14 @@ class Source:
 
 
 def main():
-    seeds = int(sys.argv[1]) if len(sys.argv) > 1 else 200
-    txc = sys.argv[2] if len(sys.argv) > 2 else f"{TOP}/crates/txc/out/txc"
-    if not os.path.isfile(txc):
-        sys.exit(f"{txc} is not there: cd crates/txc && rt run -- --version")
+    given = asked(__doc__, count("seeds", 200), TXC)
+    txc = given.txc
     wrong = 0
     for file in sorted(glob.glob(f"{TOP}/examples/*.c")):
         with open(file, encoding="utf-8") as text:
             inside = cancels_inside(text.read())
         same, moved, held = 0, 0, 0
-        for seed in range(1, seeds + 1):
+        for seed in range(1, given.seeds + 1):
             threads, steps = str(2 + seed % 3), str(STEPS if seed % 2 else 5 * seed)
             events, replayed, memory = report(
                 txc, "replay", file, "--threads", threads, "--seed", str(seed), "--steps", steps

@@ -3,20 +3,19 @@
 threads; what four threads that share no data take beside one; and how long the longest replays, many turns of a source
 and all outcomes of small programs take.
 
-    scripts/run_speed.py [ROUNDS]
+    scripts/run_speed.py [ROUNDS [TXC]]
 
-All sides run in turn in each of the rounds (9, where nothing is said). With one thread it prints the least processor
+All sides run in turn in each of the ROUNDS. With one thread it prints the least processor
 time of each, with four the median time on the clock, and how often the peer's time txc took. The workloads are in
 examples/bench, what the peers have besides in scripts/workloads. GCC compiles them by -O2 -fgnu-tm, without
--fwrapv. The program is crates/txc/out/txc, which `cd crates/txc && rt run -- --version`
-builds. What is not installed is named and left out. What a run leaves in memory is compared with what it must be.
+-fwrapv. What is not installed is named and left out. What a run leaves in memory is compared with what it must be.
 """
 import os, re, resource, shutil, statistics, subprocess, sys, tempfile, time
 
-TOP = os.path.dirname(os.path.dirname(os.path.abspath(__file__)))
+from words import TOP, TXC, asked, count
+
 PROGRAMS = os.path.join(TOP, 'examples', 'bench')
 PEERS = os.path.join(TOP, 'scripts', 'workloads')
-TXC = os.path.join(TOP, 'crates', 'txc', 'out', 'txc')
 LUA = ['primes', 'fib', 'compute']
 STEPS = 1048576
 # Programs whose threads share no data, each with what a thread prints.
@@ -89,21 +88,21 @@ def measured(rounds, sides, threads):
     for _ in range(rounds):
         for side, (name, words, more) in sides.items():
             cpu, clock, _, wrote = run(words, more)
-            if words[:2] == [TXC, 'run'] and not is_right(name, wrote, threads):
+            if words[1:2] == ['run'] and not is_right(name, wrote, threads):
                 sys.exit(f'txc run of {name} with {threads} threads left something else than it must:\n{wrote[:500]}')
             times[side].append(cpu if threads == 1 else clock)
     return {side: (min if threads == 1 else statistics.median)(all_times) for side, all_times in times.items()}
 
 
-def txc(name, threads):
-    return name, [TXC, 'run', os.path.join(PROGRAMS, name + '.c'), '--threads', str(threads)], {}
+def txc(program, name, threads):
+    return name, [program, 'run', os.path.join(PROGRAMS, name + '.c'), '--threads', str(threads)], {}
 
 
-def table(title, names, peer, rounds, threads, peer_side):
+def table(program, title, names, peer, rounds, threads, peer_side):
     """Prints how long txc and a peer take for each workload, and for all together."""
     sides = {}
     for name in names:
-        sides[name, 'txc'] = txc(name, threads)
+        sides[name, 'txc'] = txc(program, name, threads)
         sides[name, peer] = peer_side(name)
     figures = measured(rounds, sides, threads)
     print(f'\n{title}\n')
@@ -121,7 +120,7 @@ def renamed(source, letters):
     return re.sub(r'"[^"]*"|//[^\n]*|\d\w*|[A-Za-z_]\w*', longer, source)
 
 
-def apart(rounds):
+def apart(program, rounds):
     """Prints how long four threads that share no data take beside one, by names of several lengths: the median on the
     clock and, which other work of the machine disturbs less, the least processor time of a thread."""
     print('\nNo shared data: a program on one thread and on four\n')
@@ -137,7 +136,7 @@ def apart(rounds):
                 file.write(source)
             clocks, cpus = {1: [], 4: []}, {1: [], 4: []}
             for threads in [1, 4] * rounds:
-                cpu, clock, _, wrote = run([TXC, 'run', text, '--threads', str(threads)], {})
+                cpu, clock, _, wrote = run([program, 'run', text, '--threads', str(threads)], {})
                 if not is_right(name, wrote, threads):
                     sys.exit(f'txc run of {name} with {threads} threads printed something else:\n{wrote[:500]}')
                 clocks[threads].append(clock)
@@ -149,13 +148,13 @@ def apart(rounds):
     print(f'\nAt most {most[0]:.2f} times as long, {most[1]:.2f} by processor time; {GOAL} is the goal.')
 
 
-def replays(rounds):
+def replays(program, rounds):
     """Prints how long the longest replay that a seed names takes, of each workload."""
     sides = {
         name: (
             name,
             [
-                TXC, 'replay', os.path.join(PROGRAMS, name + '.c'),
+                program, 'replay', os.path.join(PROGRAMS, name + '.c'),
                 '--threads', '4', '--seed', '1', '--steps', str(STEPS),
             ],
             {},
@@ -167,7 +166,7 @@ def replays(rounds):
         print(f'| {name} | {1000 * least:.0f} |')
 
 
-def turns(rounds):
+def turns(program, rounds):
     """Prints how long the source takes for so many turns of one thread, each of which
     goes on from where the thread stood."""
     print('\n`txc source`, processor time\n\n| Turns of one thread | ms |\n|---|---|')
@@ -178,7 +177,7 @@ def turns(rounds):
                 'int x; void worker(int self)'
                 ' { int i; for (i = 0; i < 2000; i++) { __transaction_atomic { x = x + 1; } } }'
             )
-        sides = {n: ('turns', [TXC, 'source', text, '--order', ','.join(['0'] * n)], {}) for n in (1000, 2000)}
+        sides = {n: ('turns', [program, 'source', text, '--order', ','.join(['0'] * n)], {}) for n in (1000, 2000)}
         for n, least in measured(rounds, sides, 1).items():
             print(f'| {n:,} | {1000 * least:.0f} |')
 
@@ -212,7 +211,7 @@ ALL = [
 ]
 
 
-def outcomes(rounds):
+def outcomes(program, rounds):
     """Prints how long all outcomes of small programs take, and how much memory, at least over the rounds."""
     own = resource.getrusage(resource.RUSAGE_SELF).ru_maxrss / 1024 + 1
     print('\n`txc outcomes`, processor time and the most memory held\n\n| Of | Threads | ms | MiB |\n|---|---|---|---|')
@@ -225,7 +224,7 @@ def outcomes(rounds):
                     text.write(source)
             figures = []
             for _ in range(rounds):
-                cpu, _, held, wrote = run([TXC, 'outcomes', file, '--threads', str(threads)], {})
+                cpu, _, held, wrote = run([program, 'outcomes', file, '--threads', str(threads)], {})
                 if not wrote.endswith(last + '\n'):
                     sys.exit(f'txc outcomes of {name} ended otherwise:\n{wrote[-500:]}')
                 figures.append((cpu, held))
@@ -236,20 +235,19 @@ def outcomes(rounds):
 
 
 def main():
-    rounds = int(sys.argv[1]) if len(sys.argv) > 1 else 9
-    if not os.path.exists(TXC):
-        sys.exit('crates/txc/out/txc is not there: build it by `cd crates/txc && rt run -- --version`')
+    given = asked(__doc__, count('rounds', 9, 1), TXC)
+    program, rounds = given.txc, given.rounds
     if shutil.which('lua5.4'):
         table(
-            'One thread, processor time', LUA, 'lua5.4', rounds, 1,
+            program, 'One thread, processor time', LUA, 'lua5.4', rounds, 1,
             lambda name: (name, ['lua5.4', os.path.join(PEERS, name + '.lua')], {}),
         )
     else:
         print('lua5.4 is not installed: primes, fib and compute are left out')
-    apart(rounds)
-    replays(rounds)
-    turns(rounds)
-    outcomes(rounds)
+    apart(program, rounds)
+    replays(program, rounds)
+    turns(program, rounds)
+    outcomes(program, rounds)
     with tempfile.TemporaryDirectory() as place:
         for name in SHARED:
             built = shutil.which('gcc') and subprocess.run(
@@ -263,14 +261,18 @@ def main():
                 return
         peer = lambda threads, more: lambda name: (name, [os.path.join(place, name), str(threads)], more)
         table(
-            'One thread, processor time; libitm by its method ml_wt', SHARED, 'libitm', rounds, 1,
+            program, 'One thread, processor time; libitm by its method ml_wt', SHARED, 'libitm', rounds, 1,
             peer(1, {'ITM_DEFAULT_METHOD': 'ml_wt'}),
         )
         table(
+            program,
             'One thread, processor time; libitm by its default method, which runs the code of a transaction as it is',
             SHARED, 'libitm', rounds, 1, peer(1, {}),
         )
-        table('Four threads, time on the clock; libitm by its default method', SHARED, 'libitm', rounds, 4, peer(4, {}))
+        table(
+            program, 'Four threads, time on the clock; libitm by its default method', SHARED, 'libitm', rounds, 4,
+            peer(4, {}),
+        )
 
 
 if __name__ == '__main__':

@@ -18,7 +18,8 @@ import os
 import re
 import sys
 
-TOP = os.path.dirname(os.path.dirname(os.path.abspath(__file__)))
+from words import TOP, asked
+
 PAGE = f"{TOP}/docs/TRUST.md"
 FILES = f"{TOP}/docs/TRUST_FILES.md"
 FILES_HEAD = """# What must be believed, file by file
@@ -336,7 +337,7 @@ def next_of(it):
     file, at = it
     if is_rust(it):
         return frozenset(rust_led(file, at))
-    lines, own = items(file)[at]
+    lines, _ = items(file)[at]
     text = uncommented(lines)
     words = words_of(text)
     here = {
@@ -501,12 +502,13 @@ def tables():
 
 
 def main():
+    given = asked(__doc__, "--write")
     page, (made, by_file) = read(PAGE), tables()
     if BEGIN not in page or END not in page:
         sys.exit("docs/TRUST.md has no place for the tables")
     pages = {PAGE: page[: page.index(BEGIN)] + BEGIN + "\n" + made + page[page.index(END) :], FILES: by_file}
     stale = [it for it, text in pages.items() if not os.path.exists(it) or read(it) != text]
-    if "--write" in sys.argv[1:]:
+    if given.write:
         for it in stale:
             with open(it, "w", encoding="utf-8") as file:
                 file.write(pages[it])

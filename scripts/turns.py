@@ -6,13 +6,11 @@ that it prints has to give the same report. Where a thread's ticks are used up i
 
   scripts/turns.py [PROGRAMS [TXC]]
 
-PROGRAMS is how many programs are drawn, 100 if it is not given. TXC is the program, crates/txc/out/txc if it is not
-given, which `cd crates/txc && rt run -- --version` builds; the one of scripts/quick_build.py will do.
+PROGRAMS is how many programs are drawn.
 """
 
 import collections
 import glob
-import os
 import random
 import subprocess
 import sys
@@ -20,8 +18,8 @@ import tempfile
 
 from orders import report_of
 from programs import Program, text_of
+from words import TOP, TXC, asked, count
 
-TOP = os.path.dirname(os.path.dirname(os.path.abspath(__file__)))
 ORDERS = 12
 MOST_TURNS = 12
 
@@ -62,21 +60,18 @@ def hold(txc, file, threads, order, room):
 
 
 def main():
-    count = int(sys.argv[1]) if len(sys.argv) > 1 else 100
-    txc = sys.argv[2] if len(sys.argv) > 2 else f"{TOP}/crates/txc/out/txc"
-    if not os.path.isfile(txc):
-        sys.exit(f"{txc} is not there: cd crates/txc && rt run -- --version")
+    given = asked(__doc__, count("programs", 100), TXC)
     chance, came = random.Random(0), collections.Counter()
     with tempfile.TemporaryDirectory(prefix="turns-") as room:
         files = sorted(glob.glob(f"{TOP}/examples/*.c"))
-        for seed in range(1, count + 1):
+        for seed in range(1, given.programs + 1):
             files.append(f"{room}/{seed}.c")
             with open(files[-1], "w", encoding="utf-8") as program:
                 program.write(text_of(Program(seed, 4, {}).items()))
         for file in files:
             for threads in (1, 2, 3, 4):
                 for _ in range(ORDERS):
-                    came[hold(txc, file, threads, drawn_order(chance, threads), room)] += 1
+                    came[hold(given.txc, file, threads, drawn_order(chance, threads), room)] += 1
     print(", ".join(f"{many} {what}" for what, many in came.most_common()))
     return 0 if came["same"] else 1
 

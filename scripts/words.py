@@ -1,4 +1,4 @@
-"""The words of a script's command line, what the script says of itself as their help, and the program that they name."""
+"""The words of a script's command line, with what the script says of itself as help, and the program that they name."""
 
 import argparse
 import os
@@ -16,13 +16,18 @@ def reader(says, **how):
 
 
 def asked(says, *arguments):
-    """What the words ask of a script that says this of itself. An argument is an option without a value, by its name, or
-    a name with how argparse takes it."""
+    """What the words ask of a script that says this of itself. An argument is the name of an option without a value, or
+    a name with how argparse takes it. Where TXC is one, the program is there, by its whole path."""
     words = reader(says)
     for it in arguments:
         name, how = (it, {"action": "store_true"}) if isinstance(it, str) else it
         words.add_argument(name, **how)
-    return words.parse_args()
+    given = words.parse_args()
+    if TXC in arguments:
+        given.txc = os.path.abspath(given.txc or os.environ.get("TXC") or BUILT)
+        if not os.path.isfile(given.txc):
+            words.error(f"{given.txc} is not there: cd crates/txc && rt run -- --version")
+    return given
 
 
 def count(name, default, least=0):
@@ -33,21 +38,13 @@ def count(name, default, least=0):
             raise argparse.ArgumentTypeError(f"{text} is no number from {least} on")
         return int(text)
 
-    return name, {"nargs": "?", "type": number, "default": default, "metavar": name.upper(), "help": f"{default} if not given"}
-
-
-def program(path):
-    """The whole path of a program that is there."""
-    if not os.path.isfile(path):
-        raise argparse.ArgumentTypeError(f"{path} is not there: cd crates/txc && rt run -- --version")
-    return os.path.abspath(path)
+    help_ = f"{default} if not given"
+    return name, {"nargs": "?", "type": number, "default": default, "metavar": name.upper(), "help": help_}
 
 
 # An argument that is the program, and need not be given.
 TXC = "txc", {
     "nargs": "?",
-    "type": program,
-    "default": os.environ.get("TXC") or BUILT,
     "metavar": "TXC",
     "help": "the program: if not given what $TXC names, or crates/txc/out/txc, which `cd crates/txc && rt run --"
     " --version` builds; one of scripts/quick_build.py will do",

@@ -33,8 +33,9 @@ import subprocess
 import sys
 import tempfile
 
-from gate_cost import TOP, below, libraries, measure
+from gate_cost import below, libraries, measure
 from quick_build import kit
+from words import TOP, asked
 
 EDITS = f"{TOP}/wrong_bodies"
 KEPT = f"{TOP}/out/wrong_bodies.json"
@@ -406,18 +407,21 @@ def told(came):
     return 1 if {*came.values()} - {REFUSED, BY_NAME, AT_LIMIT} else 0
 
 
-def main(words):
+def main():
+    given = asked(__doc__, "--read", ("crates", {"nargs": "*", "metavar": "CRATE"}))
     crates = sorted(os.listdir(EDITS))
-    if words == ["--read"]:
+    if given.read and given.crates:
+        sys.exit("--read reads those of all crates")
+    if given.read:
         edits = [*all_edits(crates)]
         wrong = [f"{os.path.relpath(edit, TOP)}: {why}" for crate, edit in edits if (why := why_unread(crate, edit))]
         print("\n".join(wrong) or f"{len(edits)} wrong bodies can be applied")
         return 1 if wrong else 0
-    unknown = [it for it in words if it not in crates]
+    unknown = [it for it in given.crates if it not in crates]
     if unknown:
         sys.exit(f"wrong_bodies/ has none of {', '.join(unknown)}")
-    return try_all(words or crates)
+    return try_all(given.crates or crates)
 
 
 if __name__ == "__main__":
-    sys.exit(main(sys.argv[1:]))
+    sys.exit(main())
