@@ -33,6 +33,9 @@ const SHARED: &str = "a shared variable is a plain global: use it in __transacti
 
 const THREADS: &str = "threads come of --threads T, and transactions are their locks";
 
+const WAITS: &str =
+    "a thread waits in a loop with a transaction in it: while (!done) { __transaction_atomic { .. } }";
+
 const OWN: &str = "all threads share each global: what is one thread's own is a local variable";
 
 /// Reserved words of C that have no place here.
@@ -63,7 +66,7 @@ fn reserved() -> &'static [Row] {
         ("restrict", NO_WORD),
         (
             "auto",
-            "there is no auto: write int, unsigned or long long in its place",
+            "there is no auto: each variable has a type, int, unsigned or long long",
         ),
     ];
     &ROWS
@@ -168,7 +171,7 @@ fn library() -> &'static [Row] {
 
 /// Beginnings of names, and what is told of names that begin so.
 fn beginnings() -> &'static [Row] {
-    static ROWS: [Row; 14] = [
+    static ROWS: [Row; 19] = [
         ("__transaction", TRANSACTIONS),
         ("_transaction", TRANSACTIONS),
         ("__tm_", TRANSACTIONS),
@@ -177,9 +180,20 @@ fn beginnings() -> &'static [Row] {
         ("pthread_spin", LOCKS),
         ("mtx_", LOCKS),
         ("sem_", LOCKS),
+        ("pthread_cond", WAITS),
+        ("pthread_barrier", WAITS),
+        ("cnd_", WAITS),
+        (
+            "pthread_self",
+            "a thread's number is the parameter of its worker",
+        ),
         ("pthread_", THREADS),
+        (
+            "thrd_current",
+            "a thread's number is the parameter of its worker",
+        ),
         ("thrd_", THREADS),
-        ("cnd_", THREADS),
+        ("atomic_flag", LOCKS),
         ("atomic_", SHARED),
         ("__atomic_", SHARED),
         ("__sync_", SHARED),

@@ -44,7 +44,7 @@ const LONG: &str = "long stands in long long alone, which is signed";
 
 const NO_POINTERS: &str = "there are no pointers: a function returns a value, or sets a global";
 
-const PARAMETER: &str = "a parameter has a type, as in int f(int a)";
+const PARAMETER: &str = "a parameter has a type, int, unsigned or long long, as in int f(int a)";
 
 const COMPARISONS: &str = "the comparisons are <, >, <=, >=, == and !=";
 

@@ -53,15 +53,27 @@ pub(crate) fn near_word<A: Allocator + Copy>(
     Ok(None)
 }
 
+/// What is told of the token before one by the beginning of its name. Where that one is a name and begins a line, a `;`
+/// may be missing between them, and nothing is told.
+fn of_one_before(text: &str, tokens: &[Token<'_>], number: usize) -> Option<&'static str> {
+    if let Some(Kind::Name(_)) = kind_at(tokens, number) {
+        let before = tokens.get(..number).unwrap_or(&[]);
+        if missing_semicolon(text, before, offset_at(tokens, number)).is_some() {
+            return None;
+        }
+    }
+    of_beginning(tokens, kind_before(tokens, number))
+}
+
 /// Tells which word may be meant by an unexpected token, that of a number, or by one before it.
 fn near_words<A: Allocator + Copy>(
     alloc: A,
+    text: &str,
     tokens: &[Token<'_>],
     number: usize,
 ) -> Result<Option<Line<'static>>, AllocError> {
-    let before = kind_before(tokens, number);
     let names = [
-        before,
+        kind_before(tokens, number),
         kind_at(tokens, number),
         called_before(tokens, number),
     ];
@@ -71,7 +83,7 @@ fn near_words<A: Allocator + Copy>(
             return Ok(told);
         }
     }
-    Ok(match of_beginning(tokens, before) {
+    Ok(match of_one_before(text, tokens, number) {
         Some(words) => Some(Line::Words(words)),
         None => None,
     })
@@ -86,7 +98,7 @@ fn meant<A: Allocator + Copy>(
 ) -> Result<Option<Line<'static>>, AllocError> {
     match of_token(text, tokens, number) {
         Some(words) => Ok(Some(Line::Words(words))),
-        None => near_words(alloc, tokens, number),
+        None => near_words(alloc, text, tokens, number),
     }
 }
 

@@ -87,7 +87,7 @@ fn rows() -> &'static [Row] {
         (
             "void worker(int self) { auto a = 1; }",
             "10 at 1:25",
-            "there is no auto: write int, unsigned or long long in its place\nexpected '}', a declaration or a statement\n",
+            "there is no auto: each variable has a type, int, unsigned or long long\nexpected '}', a declaration or a statement\n",
         ),
         (
             "void worker(int self) { let a = 1; }",
@@ -331,7 +331,7 @@ fn rows() -> &'static [Row] {
 
 /// Words of threads, of C++ and of C's library, and functions and parameters without a type or a name.
 fn more_rows() -> &'static [Row] {
-    static ROWS: [Row; 51] = [
+    static ROWS: [Row; 53] = [
         (
             "int f(int n, ...) { return n; }",
             "01 at 1:14",
@@ -550,12 +550,12 @@ fn more_rows() -> &'static [Row] {
         (
             "int f(int a, b) { return a; }",
             "10 at 1:14",
-            "a parameter has a type, as in int f(int a)\nexpected a declaration\n",
+            "a parameter has a type, int, unsigned or long long, as in int f(int a)\nexpected a declaration\n",
         ),
         (
             "auto x = 1;",
             "10 at 1:1",
-            "there is no auto: write int, unsigned or long long in its place\nexpected a declaration\n",
+            "there is no auto: each variable has a type, int, unsigned or long long\nexpected a declaration\n",
         ),
         (
             "int x = 1\natomic_llong y;",
@@ -576,7 +576,17 @@ fn more_rows() -> &'static [Row] {
         (
             "pthread_cond_t c;",
             "10 at 1:1",
-            "threads come of --threads T, and transactions are their locks\nexpected a declaration\n",
+            "a thread waits in a loop with a transaction in it: while (!done) { __transaction_atomic { .. } }\nexpected a declaration\n",
+        ),
+        (
+            "int ops, atomic_ops;\nvoid worker(int self) { __transaction_atomic { ops = atomic_ops\natomic_ops = 1; } }",
+            "10 at 3:1",
+            "expected ';', '(', '[' or an operator\na ';' may be missing at 2:64\n",
+        ),
+        (
+            "void worker(int self) { printf(\"%d\", pthread_self()); }",
+            "20 at 1:38",
+            "a thread's number is the parameter of its worker\n",
         ),
         (
             "void worker(int self) { thrd_create(self); }",

@@ -51,9 +51,9 @@ pub fn reports_are_orders()
     threads_leave_memories();
 }
 
-/// A list of all outcomes has every report. Where all outcomes of a source were listed, whatever its threads show in some
-/// order, with whatever number of ticks, is in the list, if each of them has ended or trapped. And so is what a run of all
-/// threads at once shows: `reports_are_orders` says that it is what an order shows.
+/// A list of all outcomes has every report. Where all outcomes of a source were listed, whatever its threads show in
+/// some order, with whatever number of ticks, is in the list, if each of them has ended or trapped. And so is what a run
+/// of all threads at once shows: `reports_are_orders` says that it is what an order shows.
 pub fn orders_are_listed()
     ensures { OrdersAreListed }
 {

@@ -32,8 +32,8 @@ pub(crate) const TRAPPED: u8 = 3;
 /// The exit status where the program could not do its work: memory or output was refused, or a thread went no further.
 pub(crate) const STOPPED: u8 = 4;
 
-/// The exit status where something is not so: a report is not the one that the source prints, outcomes are not those that
-/// were said, or a property fails.
+/// The exit status where something is not so: a report is not the one that the source prints, outcomes are not those
+/// that were said, or a property fails.
 pub(crate) const REFUTED: u8 = 5;
 
 /// Whether a thread has neither ended nor trapped.

@@ -51,7 +51,7 @@ const DEEP: &[u8] =
 
 /// Programs that are compared with others.
 fn refined_rows() -> &'static [Row] {
-    static ROWS: [Row; 17] = [
+    static ROWS: [Row; 18] = [
         // a program has its own outcomes
         (
             REFINES,
@@ -197,6 +197,16 @@ fn refined_rows() -> &'static [Row] {
             (4, b"", b"txc: a.c: an order is stuck\n"),
         ),
         (
+            "txc outcomes a.c --threads 2 --refines b.c --verbose",
+            LOCKS,
+            LOCKS,
+            (
+                4,
+                b"",
+                b"txc: a.c: an order is stuck\ntxc: with --order 0,1\n",
+            ),
+        ),
+        (
             REFINES,
             ORDERED,
             LOCKS,
@@ -213,7 +223,7 @@ fn outcomes_are_those_of_another_program(rt: HostRuntime) {
 
 /// Programs of which one is refused, or not walked to the end.
 fn refused_rows() -> &'static [Row] {
-    static ROWS: [Row; 11] = [
+    static ROWS: [Row; 12] = [
         // more states than may be looked at, of one or of the other
         (
             "txc outcomes a.c --threads 2 --refines b.c --limit 3",
@@ -249,6 +259,16 @@ fn refused_rows() -> &'static [Row] {
             ADDS,
             b"int x; void worker(int self) { __transaction_atomic { x = 5; } while (1) { } }",
             (4, b"", b"txc: b.c: stopped at the steps\n"),
+        ),
+        (
+            "txc outcomes a.c --refines b.c --steps 1000 --verbose",
+            ADDS,
+            b"int x; void worker(int self) { __transaction_atomic { x = 5; } while (1) { } }",
+            (
+                4,
+                b"",
+                b"txc: b.c: stopped at the steps\ntxc: --steps N is how many steps a thread may make in one turn\n",
+            ),
         ),
         // one of them is refused, or has no code
         (
@@ -305,7 +325,7 @@ fn programs_are_compared_where_both_are_walked(rt: HostRuntime) {
 
 /// Programs that are compared with lists.
 fn expected_rows() -> &'static [Row] {
-    static ROWS: [Row; 18] = [
+    static ROWS: [Row; 19] = [
         // the list as it was printed
         (
             EXPECTS,
@@ -338,6 +358,16 @@ fn expected_rows() -> &'static [Row] {
             LAST,
             b"== outcome --order 0,1\n== thread 0: ended\n== thread 1: ended\n== memory\nx = 1\n== outcome --order 1,0\n== thread 0: ended\n== thread 1: ended\n== memory\nx = 0\n== outcomes: 2, stuck: 0, states: 5\n",
             (4, b"", b"txc: a.c: stopped at the limit\n"),
+        ),
+        (
+            "txc outcomes a.c --threads 2 --expect b.c --limit 3 --verbose",
+            LAST,
+            b"",
+            (
+                4,
+                b"",
+                b"txc: a.c: stopped at the limit\ntxc: --limit L is how many states it looks at\n",
+            ),
         ),
         (
             "txc outcomes a.c --expect b.c --steps 1000",

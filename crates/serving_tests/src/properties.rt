@@ -5,7 +5,7 @@ use std::thread::Threads;
 use test_serving::{Row, wrong_row};
 
 fn property_rows() -> &'static [Row] {
-    static ROWS: [Row; 14] = [
+    static ROWS: [Row; 15] = [
         // holds in each state; and in each outcome
         (
             "txc outcomes a.c --threads 2 --always small --final done",
@@ -120,6 +120,16 @@ fn property_rows() -> &'static [Row] {
             b"int x; int none(void) { return x == 0; } void worker(int self) { while (1) { } }",
             b"",
             (4, b"== open none: outcomes 0, stopped at the steps\n", b""),
+        ),
+        (
+            "txc outcomes a.c --final none --steps 10 --verbose",
+            b"int x; int none(void) { return x == 0; } void worker(int self) { while (1) { } }",
+            b"",
+            (
+                4,
+                b"== open none: outcomes 0, stopped at the steps\n",
+                b"txc: --steps N is how many steps a thread may make in one turn\n",
+            ),
         ),
         // holds, and an order is stuck
         (
