@@ -7,9 +7,9 @@ there, and to be over in the same way if it is over.
   scripts/replays.py [SEEDS [TXC]]
 
 The order is that of the events: each commit, each trap, and each cancel of an outermost transaction is one turn. A
-transaction that is cancelled may have found an earlier memory than that before its event, if others committed in
-between. So where the order of the events does not give what the replay gave, each cancel takes the last earlier turn at
-which it leaves memory as it is.
+transaction that is cancelled, or that writes nothing, may have found an earlier memory than that before its event, if
+others committed in between. So where the order of the events does not give what the replay gave, it is enough that
+another one does in which such turns stand earlier, behind their thread's turn before.
 """
 
 import glob
@@ -21,6 +21,8 @@ import sys
 from words import TOP, TXC, asked, count
 
 STEPS = 40_000
+# How many places are tried of the turns of one replay.
+MOST_RUNS = 5_000
 REPORT = re.compile(r"(?:== events\n(?P<events>.*?))?(?P<threads>== thread .*?)== memory(?P<memory>.*)", re.S)
 THREAD = re.compile(r"^== thread \d+: (.*)\n((?:(?!== ).*\n)*)", re.M)
 
@@ -51,11 +53,11 @@ def cancels_inside(source):
 
 
 def turns(events, inside):
-    """The thread of each turn, and whether it is a cancel."""
+    """The thread of each turn."""
     for event in events:
         _, thread, what, *_ = event.split()
         if what in ("commit", "trap") or what == "cancel" and not inside:
-            yield thread, what == "cancel"
+            yield thread
 
 
 class Source:
@@ -76,25 +78,36 @@ class Source:
             for (end, part), (there, text) in zip(replayed, threads)
         )
 
-    def placed(self, found):
-        """The order in which each cancel has the last place, not before its thread's turn before,
-        at which it changes nothing."""
-        order = []
-        for thread, cancels in found:
-            places = range(len(order), len(order) - order[::-1].index(thread) - 1 if thread in order else -1, -1)
-            if cancels:
-                memory = self.run(order)[1]
-                fits = (at for at in places if self.run(order[:at] + [thread] + order[at:])[1] == memory)
-                order.insert(next(fits, len(order)), thread)
-            else:
-                order.append(thread)
-        return order
+    def placed(self, found, replayed, memory):
+        """Whether some order gives what the replay does in which each turn that changes something stands behind those
+        before it, and each that changes nothing there or at a place before, behind its thread's turn before."""
+        left = MOST_RUNS
+
+        def fits(order, at, thread, was):
+            nonlocal left
+            left -= 1
+            threads, became = self.run(order[:at] + [thread] + order[at:])
+            text, printed = threads[int(thread)][1].rstrip("\n"), replayed[int(thread)][1].rstrip("\n")
+            return became == was and (text.startswith(printed) or printed.startswith(text))
+
+        def go(order):
+            if len(order) == len(found):
+                return self.gives(order, replayed, memory)
+            thread, was = found[len(order)], self.run(order)[1]
+            first = len(order) - order[::-1].index(thread) if thread in order else 0
+            places = [len(order)]
+            if self.run(order + [thread])[1] == was:
+                places = (at for at in range(len(order), first - 1, -1) if left > 0 and fits(order, at, thread, was))
+            return any(go(order[:at] + [thread] + order[at:]) for at in places)
+
+        return go([])
 
 
 def main():
     given = asked(__doc__, count("seeds", 200), TXC)
     txc = given.txc
     wrong = 0
+    sys.setrecursionlimit(STEPS)
     for file in sorted(glob.glob(f"{TOP}/examples/*.c")):
         with open(file, encoding="utf-8") as text:
             inside = cancels_inside(text.read())
@@ -108,15 +121,15 @@ def main():
                 held += 1
                 continue
             source, found = Source(txc, file, threads), list(turns(events, inside))
-            if source.gives([thread for thread, _ in found], replayed, memory):
+            if source.gives(found, replayed, memory):
                 same += 1
-            elif source.gives(source.placed(found), replayed, memory):
+            elif source.placed(found, replayed, memory):
                 moved += 1
             else:
                 wrong += 1
                 print(f"{os.path.basename(file)}: {threads} threads, seed {seed}: not what the source gives")
         print(
-            f"{os.path.basename(file)}: {same} in the order of events, {moved} with cancels moved,"
+            f"{os.path.basename(file)}: {same} in the order of events, {moved} with turns moved,"
             f" {held} left with the lock held"
         )
     sys.exit(wrong > 0)
