@@ -174,7 +174,8 @@ def check(crate, texts, named, *more):
 
 def verdict(status, lines, texts):
     """What a check of an edited crate came to, and what it said first."""
-    said = [it for it in map(SAID.match, lines) if it]
+    # (what is only noted or warned of refuses nothing)
+    said = [it for it in map(SAID.match, lines) if it and not it["why"].startswith(("note: ", "warning: "))]
     for it in said:
         is_text = it["error"] and (it["file"] in texts or it["file"].startswith(("src/", "specs/")))
         if status == 1 and is_text and (not it["at"] or NO_TEXT.search(re.sub("`[^`]*`", "", it["why"]))):
