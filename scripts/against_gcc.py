@@ -17,7 +17,7 @@ are in 12 seconds, unless --fresh is given.
 transactions. --report writes a C file for each program that is wrong, which stands by itself, with a `main` that tells
 the wrong outcome (scripts/gcc_reports.py).
 
---generate makes programs by chance and shrinks each that has a wrong outcome. --guide runs what docs/GUIDE.md shows of
+--generate makes programs by chance and shrinks each that has a wrong outcome. --guide runs what docs/TUTORIAL.md shows of
 this script: where one thread runs, GCC 12.2.0 has to give what stands there; with more threads chance decides, and what
 comes is only printed.
 
@@ -42,7 +42,7 @@ from orders import LeftOut, Orders, report_of
 from programs import WEIGHTS, Program, shrunk, text_of
 from words import TOP, reader, txc
 
-GUIDE = f"{TOP}/docs/GUIDE.md"
+TUTORIAL = f"{TOP}/docs/TUTORIAL.md"
 SHOWN = re.compile(r"^```\n\$ scripts/against_gcc\.py ([^\n]*)\n(.*?)^```$", re.M | re.S)
 VERSION = "12.2.0"
 LEVELS = "O0,O1,O2,O3"
@@ -342,14 +342,14 @@ def judge_by_chance(asked):
 def hold_guide(version):
     """Runs what the guide shows of this script. Gives the exit status."""
     differs = 0
-    for line, text in SHOWN.findall(read(GUIDE)):
+    for line, text in SHOWN.findall(read(TUTORIAL)):
         asked = words(shlex.split(line))
         came = "".join(f"{it}\n" for it in told(judged(read(f"{TOP}/{asked.file}"), asked), asked))
         if asked.threads > 1 or version != VERSION:
             print(f"$ {line}\n{came}", end="")
         elif came != text:
             differs = 1
-            print(f"docs/GUIDE.md does not show what this prints: {line}\n{came}", end="")
+            print(f"docs/TUTORIAL.md does not show what this prints: {line}\n{came}", end="")
         else:
             print(f"as the guide shows: {line}")
     return differs
@@ -361,7 +361,7 @@ def words(given=None):
     what = parser.add_mutually_exclusive_group(required=True)
     what.add_argument("file", nargs="?", metavar="FILE")
     what.add_argument("--generate", type=int, metavar="SEED", help="judges a program made by chance")
-    what.add_argument("--guide", action="store_true", help="runs what docs/GUIDE.md shows")
+    what.add_argument("--guide", action="store_true", help="runs what docs/TUTORIAL.md shows")
     parser.add_argument("--threads", type=int, default=1, metavar="T", help="1 to 64, and 1 if not given")
     parser.add_argument("--runs", type=int, metavar="N", help="2 of one thread and 2000 of more, if not given")
     parser.add_argument("--cc", default="gcc", help="the compiler, with words of its own if there are any")

@@ -13,8 +13,8 @@ its tree and compares with the same file; crates/lower_tests/src/of_lower/exampl
 and demands a code of each.
 
 In a document a block that begins with `$ txc run examples/NAME.c` has NAME.out under it, any other one that begins with
-`$ txc` is a transcript, README.md shows the output of first.c in a block of its own, and the C that it and GUIDE.md
-show is that of files of examples/, and the schedules that GUIDE.md shows are those of examples/schedules/.
+`$ txc` is a transcript, README.md shows the output of first.c in a block of its own, and the C that it and TUTORIAL.md
+show is that of files of examples/, and the schedules that TUTORIAL.md shows are those of examples/schedules/.
 """
 
 import glob
@@ -382,7 +382,7 @@ def main():
             if shown != read(f"examples/{run[1]}.out") if run else line + shown not in transcripts:
                 wrong.append(f"{document} does not show what this prints: {line.strip()}")
     programs = {read(name) for name in names("examples/**/*.c")}
-    for document in ("README.md", "docs/GUIDE.md"):
+    for document in ("README.md", "docs/TUTORIAL.md"):
         wrong += [
             f"{document} shows a program that is no example: {text[:60]!r}"
             for text in PROGRAM.findall(read(document))
@@ -390,8 +390,8 @@ def main():
         ]
     schedules = {read(name) for name in names("examples/schedules/*.txt")}
     wrong += [
-        f"docs/GUIDE.md shows a schedule that is no example: {text[:60]!r}"
-        for text in SCHEDULE.findall(read("docs/GUIDE.md"))
+        f"docs/TUTORIAL.md shows a schedule that is no example: {text[:60]!r}"
+        for text in SCHEDULE.findall(read("docs/TUTORIAL.md"))
         if text not in schedules
     ]
     if f"```\n{read('examples/first.out')}```" not in read("README.md"):

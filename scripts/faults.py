@@ -1,5 +1,5 @@
 #!/usr/bin/env python3
-"""Compares docs/FAULTS.md with the tests that run its examples, with the table of words and
+"""Compares docs/ERRORS.md with the tests that run its examples, with the table of words and
 with what `txc explain` prints, and the table of warnings in docs/COMMANDS.md likewise.
 
   scripts/faults.py           fails where they differ
@@ -134,7 +134,7 @@ def explanations(page):
     traps = [(number, text) for _, number, text in ends if number]
     others = [("\"trap\"", "".join(text for _, text in traps))]
     others += [(f'"{word}"', text) for word, number, text in ends if not number]
-    return f"""//! What each fault means, as docs/FAULTS.md says it: written by scripts/faults.py.
+    return f"""//! What each fault means, as docs/ERRORS.md says it: written by scripts/faults.py.
 
 /// What a fault means, when it comes, with its place and an example: lines that end with LF. `None` where no fault has
 /// the number.
@@ -212,9 +212,9 @@ def wrong_warnings():
 def main():
     if asked(__doc__, "--write").write:
         with open(os.path.join(TOP, EXPLANATIONS), "w", encoding="utf-8") as file:
-            file.write(explanations(read("docs/FAULTS.md")))
+            file.write(explanations(read("docs/ERRORS.md")))
         return 0
-    page, code = read("docs/FAULTS.md"), read("crates/serving_tests/src/refusals.rt")
+    page, code = read("docs/ERRORS.md"), read("crates/serving_tests/src/refusals.rt")
     parts, wrong = re.split(r"^## ", page, flags=re.M), []
     told = [row for name in ("TOLD", "LONG") for row in tested(code, name)]
     here = documented(next(it for it in parts if it.startswith("A source is refused")))
@@ -246,7 +246,7 @@ def main():
         wrong.append("docs/COMMANDS.md does not show what `txc explain 20` prints")
     if read(EXPLANATIONS) != explanations(page):
         wrong.append(f"{EXPLANATIONS} is not what this script writes from the page")
-    print("\n".join(wrong) or f"FAULTS.md: {len(shown)} numbers, as the tests and the program have them")
+    print("\n".join(wrong) or f"ERRORS.md: {len(shown)} numbers, as the tests and the program have them")
     return 1 if wrong else 0
 
 

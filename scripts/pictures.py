@@ -36,7 +36,7 @@ LOADED = re.compile(r"; load (@\d+) = ")
 BEGUN = re.compile(r"\d+ begin >\d+; load lock = \d*[02468]$")
 TITLE = re.compile(r"line (\d+):\n(__transaction_\w+.*)", re.DOTALL)
 ORDER = re.compile(r"(--order )?([\d,]+)")
-# Each picture of the documents, and what draws it: README and GUIDE say so too.
+# Each picture of the documents, and what draws it: README and TUTORIAL say so too.
 SHOWN = {
     "seats.svg": "examples/seats.c --threads 2 --order 0,1,0,1",
     "audit.svg": "examples/audit.c --threads 2 --order 0,1,0",
@@ -141,7 +141,7 @@ def main():
     given = asked(__doc__, "--write", count("seeds", 20), TXC)
     txc = given.txc
     wrong = 0
-    told = "".join(open(f"{TOP}/{page}", encoding="utf-8").read() for page in ("README.md", "docs/GUIDE.md"))
+    told = "".join(open(f"{TOP}/{page}", encoding="utf-8").read() for page in ("README.md", "docs/TUTORIAL.md"))
     for name, replay in SHOWN.items():
         if f"txc replay {replay} --picture > {name}\n" not in told:
             wrong += 1

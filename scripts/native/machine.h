@@ -1,4 +1,4 @@
-// A thread's transactions, by the steps of docs/MACHINE.md ("An attempt, step by step"; its rows stand above the
+// A thread's transactions, by the steps of docs/NOREC.md ("An attempt, step by step"; its rows stand above the
 // functions, in its words), in C11. Nothing is proved of it.
 //
 // Every access to the lock or to a word is sequentially consistent, as in the machine. With WEAK a word is loaded with

@@ -1,4 +1,4 @@
-//! What each fault means, as docs/FAULTS.md says it: written by scripts/faults.py.
+//! What each fault means, as docs/ERRORS.md says it: written by scripts/faults.py.
 
 /// What a fault means, when it comes, with its place and an example: lines that end with LF. `None` where no fault has
 /// the number.

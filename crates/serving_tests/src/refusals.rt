@@ -1,4 +1,4 @@
-//! The examples of docs/FAULTS.md: each is a source, its fault's number, and what standard error says behind the
+//! The examples of docs/ERRORS.md: each is a source, its fault's number, and what standard error says behind the
 //! number. `scripts/faults.py` compares these tables with the document's.
 
 use command::Format;
