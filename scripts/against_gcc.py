@@ -15,7 +15,7 @@ are in 12 seconds, unless --fresh is given.
 
 --cc names another compiler that takes GCC's words, and --library a library in place of libitm that serves GCC's ABI of
 transactions. --report writes a C file for each program that is wrong, which stands by itself, with a `main` that tells
-the wrong outcome (scripts/gcc_reports.py).
+the wrong outcome (scripts/lib/gcc_reports.py).
 
 --generate makes programs by chance and shrinks each that has a wrong outcome. --guide runs what docs/TUTORIAL.md shows of
 this script: where one thread runs, GCC 12.2.0 has to give what stands there; with more threads chance decides, and what
@@ -37,10 +37,10 @@ import sys
 import tempfile
 import time
 
-from gcc_reports import memory_code, report_commands, report_file
-from orders import LeftOut, Orders, report_of
-from programs import WEIGHTS, Program, shrunk, text_of
-from words import TOP, reader, txc
+from lib.gcc_reports import memory_code, report_commands, report_file
+from lib.orders import LeftOut, Orders, report_of
+from lib.programs import WEIGHTS, Program, shrunk, text_of
+from lib.words import TOP, reader, txc
 
 TUTORIAL = f"{TOP}/docs/TUTORIAL.md"
 SHOWN = re.compile(r"^```\n\$ scripts/against_gcc\.py ([^\n]*)\n(.*?)^```$", re.M | re.S)

@@ -27,7 +27,7 @@ import tempfile
 import time
 
 from gate_cost import libraries
-from words import TOP, reader
+from lib.words import TOP, reader
 from wrong_bodies import words_of
 
 PARTS = "Lts|Proof|Answers|Tie|Goals|Code|Layout|Named|Reads|Kinds|Statement|Met|Key|Invariants"

@@ -12,7 +12,7 @@ import os
 import re
 import sys
 
-from words import TOP, asked
+from lib.words import TOP, asked
 
 LINE = f"{TOP}/crates/command/src/line.rt"
 COMMANDS, EXPLANATIONS = f"{TOP}/docs/COMMANDS.md", f"{TOP}/crates/messages/src/explanations.rt"

@@ -14,7 +14,7 @@ import pathlib
 import re
 import sys
 
-from words import TOP, asked
+from lib.words import TOP, asked
 
 DEFINED = re.compile(r"^ *(?:(?:private|opaque|unfoldable|abbrev|data|record|class|law|lemma|notation)\s+)*pub\s+"
                      r"(?:(?:data|record|class)\s+)?(?P<name>[A-Za-z_][A-Za-z0-9_']*)\s*(?=[:({]|$)")

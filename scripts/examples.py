@@ -22,7 +22,7 @@ import os
 import re
 import sys
 
-from words import TOP, asked
+from lib.words import TOP, asked
 
 TESTS = os.path.join(TOP, "crates/serving_replays_tests/src/examples.rt")
 MEANING_TESTS = os.path.join(TOP, "crates/lower_tests/src/of_meaning/examples.rt")

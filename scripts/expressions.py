@@ -17,7 +17,7 @@ import subprocess
 import sys
 import tempfile
 
-from words import TXC, asked, count
+from lib.words import TXC, asked, count
 
 INT, UNSIGNED, LONG_LONG = "int", "unsigned", "long long"
 TYPES = [INT, UNSIGNED, LONG_LONG]

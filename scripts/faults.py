@@ -20,7 +20,7 @@ import os
 import re
 import sys
 
-from words import TOP, asked
+from lib.words import TOP, asked
 
 WORKER = "void worker(int self) {"
 EXPLANATIONS = "crates/messages/src/explanations.rt"

@@ -34,7 +34,7 @@ import sys
 import tempfile
 import time
 
-from words import TOP, reader
+from lib.words import TOP, reader
 
 CSV = f"{TOP}/docs/gate_cost.csv"
 PAGE = f"{TOP}/docs/GATE.md"

@@ -26,7 +26,7 @@ import tempfile
 import threading
 from concurrent.futures import ThreadPoolExecutor
 
-from words import TOP, TXC, asked
+from lib.words import TOP, TXC, asked
 
 MEBIBYTE = 1 << 20
 OUT_OF_MEMORY = b"txc: out of memory\n"

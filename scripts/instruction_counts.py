@@ -9,7 +9,7 @@ what one transaction, word or call takes, everything round it included.
 """
 import os, re, shutil, subprocess, sys, tempfile
 
-from words import TOP, TXC, asked
+from lib.words import TOP, TXC, asked
 
 
 def calls(n):

@@ -17,7 +17,7 @@ import subprocess
 import sys
 import tempfile
 
-from words import TXC, asked, count
+from lib.words import TXC, asked, count
 
 COLLIDING = "aaaaaaaaaaaaassTNo3qMD1o"
 OTHERS = "aaaaaaaaaaaaassTNo3qMD1_"

@@ -21,7 +21,7 @@ import tempfile
 import time
 
 import native
-from words import TOP, TXC, asked, count, txc
+from lib.words import TOP, TXC, asked, count, txc
 
 BENCH = f"{TOP}/examples/bench"
 WORKLOADS = f"{TOP}/scripts/workloads"

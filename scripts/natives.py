@@ -19,8 +19,8 @@ import sys
 import tempfile
 
 import native
-from programs import WEIGHTS, Program, text_of
-from words import TOP, TXC, asked, count, txc
+from lib.programs import WEIGHTS, Program, text_of
+from lib.words import TOP, TXC, asked, count, txc
 
 # What `txc certify` says by its exit status.
 CERTIFIED, REFUTED = 0, 5

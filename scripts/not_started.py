@@ -12,7 +12,7 @@ import resource
 import subprocess
 import sys
 
-from words import TOP, TXC, asked
+from lib.words import TOP, TXC, asked
 
 MEBIBYTE = 1 << 20
 

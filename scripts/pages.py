@@ -14,7 +14,7 @@ import re
 import sys
 
 from gate_cost import libraries
-from words import TOP, asked
+from lib.words import TOP, asked
 
 BEGIN, END = "<!-- read from crates.txt and src: begin -->\n", "<!-- read from crates.txt and src: end -->\n"
 WORD = re.compile(r"`([A-Za-z_][A-Za-z0-9_]*(?:::[A-Za-z_][A-Za-z0-9_]*)*)(?:\(\))?`")

@@ -25,7 +25,7 @@ import subprocess
 import sys
 import xml.etree.ElementTree as xml
 
-from words import TOP, TXC, asked, count
+from lib.words import TOP, TXC, asked, count
 
 SVG = "{http://www.w3.org/2000/svg}"
 MOST = 400

@@ -23,7 +23,7 @@ from concurrent.futures import ThreadPoolExecutor, as_completed
 
 from gate_cost import has_tests, libraries, measure
 from quick_build import copy_sources, kit, make_links
-from words import TOP, reader
+from lib.words import TOP, reader
 
 RESULT = re.compile(r"^test result: (ok\. )?.*$", re.M)
 # On the clock, for the tests of one crate once they are compiled: other work may be going on.

@@ -9,7 +9,7 @@ import os
 import re
 import sys
 
-from words import TOP, asked
+from lib.words import TOP, asked
 
 QUOTATION = re.compile(r"^`(crates/[^`]+)`\n```(?:antt|rust)\n(.*?)^```$", re.M | re.S)
 

@@ -18,7 +18,7 @@ import re
 import subprocess
 import sys
 
-from words import TOP, TXC, asked, count
+from lib.words import TOP, TXC, asked, count
 
 STEPS = 40_000
 # How many places are tried of the turns of one replay.

@@ -18,7 +18,7 @@ import os
 import re
 import sys
 
-from words import TOP, asked
+from lib.words import TOP, asked
 
 PAGE = f"{TOP}/docs/TRUST.md"
 FILES = f"{TOP}/docs/TRUST_FILES.md"

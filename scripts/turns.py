@@ -16,9 +16,9 @@ import subprocess
 import sys
 import tempfile
 
-from orders import report_of
-from programs import Program, text_of
-from words import TOP, TXC, asked, count
+from lib.orders import report_of
+from lib.programs import Program, text_of
+from lib.words import TOP, TXC, asked, count
 
 ORDERS = 12
 MOST_TURNS = 12

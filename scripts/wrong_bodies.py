@@ -35,7 +35,7 @@ import tempfile
 
 from gate_cost import below, libraries, measure
 from quick_build import kit
-from words import TOP, asked
+from lib.words import TOP, asked
 
 EDITS = f"{TOP}/wrong_bodies"
 KEPT = f"{TOP}/out/wrong_bodies.json"

@@ -6,7 +6,7 @@
 //
 // With `fresh` each run has threads of its own. Without, the same threads make all runs, and a round of 12 seconds is
 // the last one.
-// In a file that scripts/gcc_reports.py writes, THREADS, RUNS and FRESH stand for these words, and MAY_COME for the
+// In a file that scripts/lib/gcc_reports.py writes, THREADS, RUNS and FRESH stand for these words, and MAY_COME for the
 // reports that may come. Then the first other report is printed, and ends the program with 1.
 // `against_save`, `against_reset` and `against_show` are of a file that the script writes: what they do to the
 // program's globals.

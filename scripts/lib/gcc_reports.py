@@ -7,7 +7,9 @@ import platform
 import re
 import shlex
 
-HARNESS = f"{os.path.dirname(os.path.abspath(__file__))}/workloads/against.c"
+from lib.words import TOP
+
+HARNESS = f"{TOP}/scripts/workloads/against.c"
 # How a number of each type is printed.
 FORMS = {"int": "%d", "unsigned": "%u", "long long": "%lld"}
 # Names of the harness that a program may have too.

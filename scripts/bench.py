@@ -3,7 +3,7 @@
 threads; what four threads that share no data take beside one; and how long the longest replays, many turns of a source
 and all outcomes of small programs take.
 
-    scripts/run_speed.py [ROUNDS [TXC]]
+    scripts/bench.py [ROUNDS [TXC]]
 
 All sides run in turn in each of the ROUNDS. With one thread it prints the least processor
 time of each, with four the median time on the clock, and how often the peer's time txc took. The workloads are in
@@ -12,7 +12,7 @@ examples/bench, what the peers have besides in scripts/workloads. GCC compiles t
 """
 import os, re, resource, shutil, statistics, subprocess, sys, tempfile, time
 
-from words import TOP, TXC, asked, count
+from lib.words import TOP, TXC, asked, count
 
 PROGRAMS = os.path.join(TOP, 'examples', 'bench')
 PEERS = os.path.join(TOP, 'scripts', 'workloads')

@@ -1,0 +1,1 @@
+"""What several scripts import; none of these files is run by itself."""
