@@ -4,7 +4,7 @@ transactions gives.
 
     scripts/against_gcc.py FILE [--threads T] [--runs N] [--pauses] [--all] ..
     scripts/against_gcc.py --generate SEED [--count N] [--threads T] [--keep FOLDER] ..
-    scripts/against_gcc.py --guide
+    scripts/against_gcc.py --tutorial [--txc PATH]
 
 GCC builds the program at each level, with a harness (scripts/workloads/against.c) that calls `worker` in T threads N
 times over, each time from the globals' first values. Each build is run with each of libitm's methods. What is allowed
@@ -17,16 +17,18 @@ are in 12 seconds, unless --fresh is given.
 transactions. --report writes a C file for each program that is wrong, which stands by itself, with a `main` that tells
 the wrong outcome (scripts/lib/gcc_reports.py).
 
---generate makes programs by chance and shrinks each that has a wrong outcome. --guide runs what docs/TUTORIAL.md shows of
-this script: where one thread runs, GCC 12.2.0 has to give what stands there; with more threads chance decides, and what
-comes is only printed.
+--generate makes random programs and shrinks each that has a wrong outcome. --tutorial (or --guide) runs each call of this
+script that a page of docs/ shows: with one thread GCC 12.2.0 has to print what the page shows; with more threads the
+result depends on the schedule, and is only printed.
 
 Exit status: 1 where something is wrong, 2 where a program is left out, words are of no use, or the compiler, its library
-or txc is not there. txc is $TXC, or the program that `rt run` or scripts/quick_build.py makes, or `txc` on the path.
+or txc is not there. txc is the program that --txc or $TXC names, the one that `rt run` or scripts/quick_build.py makes,
+or `txc` on the path.
 """
 
 import argparse
 import collections
+import glob
 import os
 import re
 import shlex
@@ -40,9 +42,8 @@ import time
 from lib.gcc_reports import memory_code, report_commands, report_file
 from lib.orders import LeftOut, Orders, report_of
 from lib.programs import WEIGHTS, Program, shrunk, text_of
-from lib.words import TOP, reader, txc
+from lib.words import TOP, reader, txc, use
 
-TUTORIAL = f"{TOP}/docs/TUTORIAL.md"
 SHOWN = re.compile(r"^```\n\$ scripts/against_gcc\.py ([^\n]*)\n(.*?)^```$", re.M | re.S)
 VERSION = "12.2.0"
 LEVELS = "O0,O1,O2,O3"
@@ -339,29 +340,33 @@ def judge_by_chance(asked):
     return 1 if wrong else 0
 
 
-def hold_guide(version):
-    """Runs what the guide shows of this script. Gives the exit status."""
-    differs = 0
-    for line, text in SHOWN.findall(read(TUTORIAL)):
+def hold_pages(version):
+    """Runs each call of this script that a page shows. Returns the exit status."""
+    pages = ["README.md", *sorted(glob.glob("docs/*.md", root_dir=TOP))]
+    shown = [(page, line, text) for page in pages for line, text in SHOWN.findall(read(f"{TOP}/{page}"))]
+    if not shown:
+        print("no page shows a call of this script with what it prints", file=sys.stderr)
+    differs = 0 if shown else 1
+    for page, line, text in shown:
         asked = words(shlex.split(line))
         came = "".join(f"{it}\n" for it in told(judged(read(f"{TOP}/{asked.file}"), asked), asked))
         if asked.threads > 1 or version != VERSION:
             print(f"$ {line}\n{came}", end="")
         elif came != text:
             differs = 1
-            print(f"docs/TUTORIAL.md does not show what this prints: {line}\n{came}", end="")
+            print(f"{page} does not show what this prints: {line}\n{came}", end="")
         else:
-            print(f"as the guide shows: {line}")
+            print(f"as {page} shows: {line}")
     return differs
 
 
 def words(given=None):
     """The words of the command line."""
-    parser = reader(__doc__, usage="against_gcc.py (FILE | --generate SEED | --guide) [OPTION..]")
+    parser = reader(__doc__, usage="against_gcc.py (FILE | --generate SEED | --tutorial) [OPTION..]")
     what = parser.add_mutually_exclusive_group(required=True)
     what.add_argument("file", nargs="?", metavar="FILE")
     what.add_argument("--generate", type=int, metavar="SEED", help="judges a program made by chance")
-    what.add_argument("--guide", action="store_true", help="runs what docs/TUTORIAL.md shows")
+    what.add_argument("--tutorial", "--guide", action="store_true", help="runs each call that a page of docs/ shows")
     parser.add_argument("--threads", type=int, default=1, metavar="T", help="1 to 64, and 1 if not given")
     parser.add_argument("--runs", type=int, metavar="N", help="2 of one thread and 2000 of more, if not given")
     parser.add_argument("--cc", default="gcc", help="the compiler, with words of its own if there are any")
@@ -384,6 +389,7 @@ def words(given=None):
         "--seconds", type=int, default=60, metavar="N", help="for shrinking one program, 60 if not given"
     )
     parser.add_argument("--keep", metavar="FOLDER", help="writes each shrunk program there")
+    parser.add_argument("--txc", metavar="PATH", help="the program")
     asked = parser.parse_args(given)
     if not 1 <= asked.threads <= 64:
         parser.error("--threads is 1 to 64")
@@ -401,11 +407,12 @@ def words(given=None):
 
 def main():
     asked = words()
+    use(asked.txc)
     try:
         version, asked.compiler = version_of(asked)
         print(asked.compiler, file=sys.stderr)
-        if asked.guide:
-            return hold_guide(version)
+        if asked.tutorial:
+            return hold_pages(version)
         return judge_file(asked.file, asked) if asked.file else judge_by_chance(asked)
     except LeftOut as why:
         print(f"left out: {why}")

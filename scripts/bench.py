@@ -3,7 +3,7 @@
 threads; what four threads that share no data take beside one; and how long the longest replays, many turns of a source
 and all outcomes of small programs take.
 
-    scripts/bench.py [ROUNDS [TXC]]
+    scripts/bench.py [ROUNDS] [--txc PATH]
 
 All sides run in turn in each of the ROUNDS. With one thread it prints the least processor
 time of each, with four the median time on the clock, and how often the peer's time txc took. The workloads are in

@@ -1,7 +1,7 @@
 #!/usr/bin/env python3
 """Holds expressions of the three types of numbers, drawn by chance, against Python's numbers and against GCC.
 
-    scripts/expressions.py [COUNT [TXC [SEED]]]
+    scripts/expressions.py [COUNT [SEED]] [--txc PATH]
 
 Each of COUNT programs has six locals with values at the edges of their types, prints an expression over them, and
 stores it in two globals. `txc run` and `txc source` have to print the value that the rules of docs/LANGUAGE.md give
@@ -227,7 +227,7 @@ def hold_gcc(place, programs):
 
 
 def main():
-    given = asked(__doc__, count("count", 300), TXC, count("seed", 1))
+    given = asked(__doc__, count("count", 300), count("seed", 1), TXC)
     chance = random.Random(given.seed)
     with tempfile.TemporaryDirectory() as place:
         programs = [found for found in (hold(given.txc, place, chance) for _ in range(given.count)) if found]

@@ -2,7 +2,7 @@
 """Puts a program where things go wrong, and fails where it then crashes, tells something else than what went wrong, or
 prints a report that says something else than it does elsewhere.
 
-  scripts/hostile.py [TXC]
+  scripts/hostile.py [--txc PATH]
 
 It takes less than a minute, and needs Linux, and `gcc` for the first part:
 

@@ -2,7 +2,7 @@
 """Counts the processor's instructions of `txc run` with one thread, by `valgrind --tool=callgrind`, which gives the
 same counts whatever else the machine does.
 
-    scripts/instruction_counts.py [TXC]
+    scripts/instruction_counts.py [--txc PATH]
 
 Each workload of examples/bench is run with two numbers of turns; the difference, divided by how much more was done, is
 what one transaction, word or call takes, everything round it included.

@@ -2,7 +2,7 @@
 """Prints how long txc takes for names that are meant to take long, beside others of the same length and number, and for
 long sums.
 
-    scripts/names_speed.py [ROUNDS [TXC]]
+    scripts/names_speed.py [ROUNDS] [--txc PATH]
 
 First `txc check` of a function with 31,000 locals, a source of 1 MiB: whose names all have one hash, where a hash
 multiplies eight bytes by eight with a constant and no key (behind such a beginning one factor is 0, whatever comes

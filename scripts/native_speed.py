@@ -2,7 +2,7 @@
 """Measures native programs (scripts/native.py) of the workloads that share data beside `txc run`, NOrec written by hand
 (scripts/workloads/norec.c) and GCC's transactional memory, with one and four threads; and what a certificate costs.
 
-    scripts/native_speed.py [ROUNDS [TXC]]
+    scripts/native_speed.py [ROUNDS] [--txc PATH]
 
 All sides run in turn in each of the ROUNDS. It prints times of whole processes on the clock,
 the least of the rounds with one thread and the median with four, and means of their ratios: `native` with sequentially

@@ -5,7 +5,7 @@ to say that the report is, byte for byte, what the source prints in the order of
 And runs of native programs with a fault planted must not all be certified: validation that passes over a changed word,
 a lock that is not looked at behind a read, a release before the stores, an `unsigned` sum that does not wrap.
 
-    scripts/natives.py [PROGRAMS [TXC]]
+    scripts/natives.py [PROGRAMS] [--txc PATH]
 
 PROGRAMS is how many are drawn. Left out, and counted, are runs that stop, and those for which `txc certify` has no
 memory. A program of which a run is not certified is kept, as out/natives-SEED.c.

@@ -3,7 +3,7 @@
 that was not started: fault 73, with nothing reported and the exit status 4. No test of the repository
 can make that happen.
 
-  scripts/not_started.py [TXC]
+  scripts/not_started.py [--txc PATH]
 
 A program with the checks of `rt try` will not do: these take more room than it is given.
 """

@@ -69,7 +69,7 @@ def parts(page):
 
 def words_of_code():
     words = set()
-    for pattern in ("crates/**/*.rt", "crates/**/*.antt", "scripts/*.py", "examples/**/*"):
+    for pattern in ("crates/**/*.rt", "crates/**/*.antt", "scripts/**/*.py", "examples/**/*"):
         for name in glob.glob(pattern, root_dir=TOP, recursive=True):
             if os.path.isfile(os.path.join(TOP, name)):
                 words.update(re.findall(r"[A-Za-z_][A-Za-z0-9_]*", read(name)))

@@ -2,8 +2,8 @@
 """Holds pictures of replays against their timelines and their sources, and the pictures of the documents against what
 is drawn now.
 
-  scripts/pictures.py [SEEDS [TXC]]           each program of examples/ by so many seeds, with two to four threads
-  scripts/pictures.py --write [SEEDS [TXC]]   draws the pictures of docs/pictures/ anew, and replays nothing
+  scripts/pictures.py [SEEDS] [--txc PATH]           each program of examples/ by so many seeds, with two to four threads
+  scripts/pictures.py --write [SEEDS] [--txc PATH]   draws the pictures of docs/pictures/ anew, and replays nothing
 
 Of each picture it is shown that
 

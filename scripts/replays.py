@@ -4,7 +4,7 @@ every other time cut off early. Where no thread has the lock at the end, its sou
 transactions that the replay tells of. Both have to leave the same memory; each thread has to have printed no more than
 there, and to be over in the same way if it is over.
 
-  scripts/replays.py [SEEDS [TXC]]
+  scripts/replays.py [SEEDS] [--txc PATH]
 
 The order is that of the events: each commit, each trap, and each cancel of an outermost transaction is one turn. A
 transaction that is cancelled, or that writes nothing, may have found an earlier memory than that before its event, if

@@ -4,7 +4,7 @@ to four in orders drawn by chance. `txc replay --order L` has to leave the globa
 each thread's text and end as that does, but a thread that waits as running; no event may be an abort; and the schedule
 that it prints has to give the same report. Where a thread's ticks are used up in the source's order, nothing is held.
 
-  scripts/turns.py [PROGRAMS [TXC]]
+  scripts/turns.py [PROGRAMS] [--txc PATH]
 
 PROGRAMS is how many programs are drawn.
 """

@@ -17,7 +17,7 @@ def reader(says, **how):
 
 def asked(says, *arguments):
     """What the words ask of a script that says this of itself. An argument is the name of an option without a value, or
-    a name with how argparse takes it. Where TXC is one, the program is there, by its whole path."""
+    a name with how argparse takes it. If TXC is one of them, `txc` is the path of a program that exists."""
     words = reader(says)
     for it in arguments:
         name, how = (it, {"action": "store_true"}) if isinstance(it, str) else it
@@ -26,7 +26,7 @@ def asked(says, *arguments):
     if TXC in arguments:
         given.txc = os.path.abspath(given.txc or os.environ.get("TXC") or BUILT)
         if not os.path.isfile(given.txc):
-            words.error(f"{given.txc} is not there: cd crates/txc && rt run -- --version")
+            words.error(f"there is no {given.txc}: cd crates/txc && rt run -- --version")
     return given
 
 
@@ -42,13 +42,21 @@ def count(name, default, least=0):
     return name, {"nargs": "?", "type": number, "default": default, "metavar": name.upper(), "help": help_}
 
 
-# An argument that is the program, and need not be given.
-TXC = "txc", {
-    "nargs": "?",
-    "metavar": "TXC",
-    "help": "the program: if not given what $TXC names, or crates/txc/out/txc, which `cd crates/txc && rt run --"
-    " --version` builds; one of scripts/quick_build.py will do",
+# The option that names the program.
+TXC = "--txc", {
+    "metavar": "PATH",
+    "help": "the program [default: $TXC, or crates/txc/out/txc, which `cd crates/txc && rt run -- --version` builds];"
+    " out/txc of scripts/quick_build.py will do",
 }
+
+
+def use(path):
+    """Makes the program at a path, if one is given, the one that `txc` returns."""
+    if path and not os.path.isfile(path):
+        print(f"{os.path.basename(sys.argv[0])}: there is no {path}", file=sys.stderr)
+        sys.exit(2)
+    if path:
+        os.environ["TXC"] = os.path.abspath(path)
 
 
 def txc():
