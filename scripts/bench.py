@@ -1,17 +1,25 @@
 #!/usr/bin/env python3
-"""Measures `txc run` against Lua, on work of one thread, and against GCC's transactional memory, with one and four
-threads; what four threads that share no data take beside one; and how long the longest replays, many turns of a source
-and all outcomes of small programs take.
+"""Measures txc, and prints tables of figures. It fails only if a run leaves something else in memory than it must.
 
-    scripts/bench.py [ROUNDS] [--txc PATH]
+    scripts/bench.py CASE [ROUNDS] [--txc PATH]
 
-All sides run in turn in each of the ROUNDS. With one thread it prints the least processor
-time of each, with four the median time on the clock, and how often the peer's time txc took. The workloads are in
-examples/bench, what the peers have besides in scripts/workloads. GCC compiles them by -O2 -fgnu-tm, without
--fwrapv. What is not installed is named and left out. What a run leaves in memory is compared with what it must be.
+    run            `txc run` and Lua on work of one thread; four threads that share no data, and one; `txc run` and GCC's
+                   transactional memory with one and four threads
+    replays        the longest replays that a seed names
+    source         many turns of a source
+    outcomes       all outcomes of small programs
+    native         native programs, NOrec written by hand, libitm, and certificates (scripts/lib/native_speed.py)
+    names          sources with very many names, and long sums (scripts/lib/names_speed.py)
+    instructions   the processor's instructions, which no other load changes (scripts/lib/instruction_counts.py)
+
+Every implementation runs once in each of the ROUNDS. With one thread the figure is the least processor time, with four
+the median time on the clock, and the ratio is txc's time to the other's. The workloads are in examples/bench, and what
+the others need besides in scripts/workloads. GCC compiles with -O2 -fgnu-tm, without -fwrapv. What is not installed is
+named and left out.
 """
 import os, re, resource, shutil, statistics, subprocess, sys, tempfile, time
 
+from lib import instruction_counts, names_speed, native_speed
 from lib.words import TOP, TXC, asked, count
 
 PROGRAMS = os.path.join(TOP, 'examples', 'bench')
@@ -26,7 +34,24 @@ LONGER = [0, 5, 14, 40]
 # So many times as long as one thread are four of them to take at most.
 GOAL = 1.1
 KEPT = 'break else for if int long printf return unsigned void worker'.split()
+# Programs that share data: whether the globals that a run with so many threads leaves are right.
+RIGHT = {
+    'counter': lambda left, threads: left['x'] == [500000 * threads],
+    'bank': lambda left, threads: left['wrong'] == [0] and sum(left['account']) == 6400,
+    'hashset': lambda left, threads: left['count'] == [sum(1 for s in left['slot'] if s)],
+    'longread': lambda left, threads: left['bad'] == [0] and left['a'][5] == 5000,
+    'disjoint': lambda left, threads: left['a'] == [10000] * (64 * threads) + [0] * (512 - 64 * threads),
+    'list': lambda left, threads: is_sorted(keys(left['key'], left['next']), left['count']),
+    'sieve': lambda left, threads: left['count'] == [550] and left['composite'].count(0) == 552,
+}
 SHARED = ['counter', 'bank', 'hashset', 'longread', 'disjoint', 'list', 'sieve']
+# Each table of txc and libitm: its title, its programs, how many threads, and what is set for libitm.
+BESIDE_LIBITM = [
+    ('One thread, processor time; libitm with its method ml_wt', SHARED, 1, {'ITM_DEFAULT_METHOD': 'ml_wt'}),
+    ('One thread, processor time; libitm with its default method, which runs a lone transaction uninstrumented',
+     SHARED, 1, {}),
+    ('Four threads, time on the clock; libitm with its default method', SHARED, 4, {}),
+]
 
 
 def values(report):
@@ -47,27 +72,18 @@ def keys(key, after):
     return found
 
 
+def is_sorted(along, count):
+    """Whether keys rise, and are as many as were counted."""
+    return all(one < other for one, other in zip(along, along[1:])) and count == [len(along)]
+
+
 def is_right(name, report, threads):
     """Whether a report of txc says what the workload must leave."""
     if any(f'== thread {t}: ended' not in report for t in range(threads)):
         return False
     if name in OWN:
         return report.count(OWN[name] + '\n') == threads
-    left = values(report)
-    if name == 'counter':
-        return left['x'] == [500000 * threads]
-    if name == 'bank':
-        return left['wrong'] == [0] and sum(left['account']) == 6400
-    if name == 'hashset':
-        return left['count'] == [sum(1 for s in left['slot'] if s)]
-    if name == 'longread':
-        return left['bad'] == [0] and left['a'][5] == 5000
-    if name == 'list':
-        along = keys(left['key'], left['next'])
-        return all(one < other for one, other in zip(along, along[1:])) and left['count'] == [len(along)]
-    if name == 'sieve':
-        return left['count'] == [550] and left['composite'].count(0) == 552
-    return left['a'] == [10000] * (64 * threads) + [0] * (512 - 64 * threads)
+    return RIGHT[name](values(report), threads)
 
 
 def run(words, more):
@@ -234,9 +250,8 @@ def outcomes(program, rounds):
             print(f'| {name} | {threads} | {1000 * min(cpu for cpu, _ in figures):.0f} | {shown} |')
 
 
-def main():
-    given = asked(__doc__, count('rounds', 9, 1), TXC)
-    program, rounds = given.txc, given.rounds
+def beside_lua(program, rounds):
+    """Prints how long programs of one thread take, and the same in Lua."""
     if shutil.which('lua5.4'):
         table(
             program, 'One thread, processor time', LUA, 'lua5.4', rounds, 1,
@@ -244,12 +259,13 @@ def main():
         )
     else:
         print('lua5.4 is not installed: primes, fib and compute are left out')
-    apart(program, rounds)
-    replays(program, rounds)
-    turns(program, rounds)
-    outcomes(program, rounds)
+
+
+def beside_libitm(program, rounds):
+    """Prints how long programs that share data take, and the same by GCC's transactional memory."""
+    programs = list(dict.fromkeys(name for _, names, _, _ in BESIDE_LIBITM for name in names))
     with tempfile.TemporaryDirectory() as place:
-        for name in SHARED:
+        for name in programs:
             built = shutil.which('gcc') and subprocess.run(
                 [
                     'gcc', '-O2', '-fgnu-tm', '-pthread', os.path.join(PROGRAMS, name + '.c'),
@@ -257,22 +273,36 @@ def main():
                 ],
                 capture_output=True).returncode == 0
             if not built:
-                print('gcc with libitm is not installed: ' + ', '.join(SHARED) + ' are left out')
+                print('gcc with libitm is not installed: ' + ', '.join(programs) + ' are left out')
                 return
-        peer = lambda threads, more: lambda name: (name, [os.path.join(place, name), str(threads)], more)
-        table(
-            program, 'One thread, processor time; libitm by its method ml_wt', SHARED, 'libitm', rounds, 1,
-            peer(1, {'ITM_DEFAULT_METHOD': 'ml_wt'}),
-        )
-        table(
-            program,
-            'One thread, processor time; libitm by its default method, which runs the code of a transaction as it is',
-            SHARED, 'libitm', rounds, 1, peer(1, {}),
-        )
-        table(
-            program, 'Four threads, time on the clock; libitm by its default method', SHARED, 'libitm', rounds, 4,
-            peer(4, {}),
-        )
+        for title, names, threads, more in BESIDE_LIBITM:
+            peer = lambda name: (name, [os.path.join(place, name), str(threads)], more)
+            table(program, title, names, 'libitm', rounds, threads, peer)
+
+
+def runs(program, rounds):
+    """Prints all that is measured of `txc run`."""
+    for part in (beside_lua, apart, beside_libitm):
+        part(program, rounds)
+
+
+# Each case, and how many rounds it makes by default.
+CASES = {
+    'run': (runs, 9),
+    'replays': (replays, 9),
+    'source': (turns, 9),
+    'outcomes': (outcomes, 9),
+    'native': (native_speed.measure, 9),
+    'names': (names_speed.measure, 5),
+    'instructions': (instruction_counts.measure, 1),
+}
+
+
+def main():
+    case = 'case', {'choices': list(CASES), 'metavar': 'CASE', 'help': ', '.join(CASES)}
+    given = asked(__doc__, case, count('rounds', None, 1), TXC)
+    measure, rounds = CASES[given.case]
+    measure(given.txc, given.rounds or rounds)
 
 
 if __name__ == '__main__':

@@ -38,7 +38,7 @@ def count(name, default, least=0):
             raise argparse.ArgumentTypeError(f"{text} is no number from {least} on")
         return int(text)
 
-    help_ = f"{default} if not given"
+    help_ = f"[default: {default}]" if default is not None else None
     return name, {"nargs": "?", "type": number, "default": default, "metavar": name.upper(), "help": help_}
 
 

@@ -1,15 +1,12 @@
-#!/usr/bin/env python3
-"""Counts the processor's instructions of `txc run` with one thread, by `valgrind --tool=callgrind`, which gives the
-same counts whatever else the machine does.
-
-    scripts/instruction_counts.py [--txc PATH]
+"""The case `instructions` of scripts/bench.py: the processor's instructions of `txc run` with one thread, by `valgrind
+--tool=callgrind`, which gives the same counts whatever else the machine does.
 
 Each workload of examples/bench is run with two numbers of turns; the difference, divided by how much more was done, is
 what one transaction, word or call takes, everything round it included.
 """
 import os, re, shutil, subprocess, sys, tempfile
 
-from lib.words import TOP, TXC, asked
+from lib.words import TOP
 
 
 def calls(n):
@@ -48,8 +45,8 @@ def counted(txc, text):
     return int(found[1])
 
 
-def main():
-    txc = asked(__doc__, TXC).txc
+def measure(txc, _):
+    """Prints the table. One round is enough."""
     if not shutil.which('valgrind'):
         sys.exit('valgrind is not installed')
     print('| What | Instructions |\n|---|---|')
@@ -65,7 +62,3 @@ def main():
             - counted(txc, text.replace(place.format(number), place.format(few)))
         )
         print(f'| {what} | {round(more / (times(many) - times(few)))} |')
-
-
-if __name__ == '__main__':
-    main()

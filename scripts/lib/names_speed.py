@@ -1,23 +1,18 @@
-#!/usr/bin/env python3
-"""Prints how long txc takes for names that are meant to take long, beside others of the same length and number, and for
-long sums.
-
-    scripts/names_speed.py [ROUNDS] [--txc PATH]
+"""The case `names` of scripts/bench.py: how long txc takes for names that are meant to take long, beside others of the
+same length and number, and for long sums.
 
 First `txc check` of a function with 31,000 locals, a source of 1 MiB: whose names all have one hash, where a hash
 multiplies eight bytes by eight with a constant and no key (behind such a beginning one factor is 0, whatever comes
 after), and as many others. txc's hash has a key that is made of all names of the source, so both are to take as long.
 Then `txc listing` of a function with 60,000 locals and 60,000 uses of one, the newest or the oldest, and of 1 MiB of
 sums, of 11 terms each and of 90, of globals, of locals and of constants. The figures are the least processor time of
-the ROUNDS.
+the rounds.
 """
 
 import os
 import subprocess
 import sys
 import tempfile
-
-from lib.words import TXC, asked, count
 
 COLLIDING = "aaaaaaaaaaaaassTNo3qMD1o"
 OTHERS = "aaaaaaaaaaaaassTNo3qMD1_"
@@ -52,8 +47,8 @@ def used(words):
     return usage.ru_utime + usage.ru_stime
 
 
-def main():
-    given = asked(__doc__, count("rounds", 5, 1), TXC)
+def measure(program, rounds):
+    """Prints a line for each source."""
     sources = [
         ("check", "31,000 names of one hash", locals_of(COLLIDING)),
         ("check", "31,000 others", locals_of(OTHERS)),
@@ -70,9 +65,5 @@ def main():
             path = f"{folder}/{at}.c"
             with open(path, "w", encoding="ascii") as file:
                 file.write(text)
-            least = min(used([given.txc, command, path]) for _ in range(given.rounds))
+            least = min(used([program, command, path]) for _ in range(rounds))
             print(f"txc {command}, {says}: {len(text):,} bytes, {least:.2f} s")
-
-
-if __name__ == "__main__":
-    main()

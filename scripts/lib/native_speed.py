@@ -1,14 +1,12 @@
-#!/usr/bin/env python3
-"""Measures native programs (scripts/native.py) of the workloads that share data beside `txc run`, NOrec written by hand
-(scripts/workloads/norec.c) and GCC's transactional memory, with one and four threads; and what a certificate costs.
+"""The case `native` of scripts/bench.py: native programs (scripts/native.py) of the workloads that share data, `txc
+run`, NOrec written by hand (scripts/workloads/norec.c) and GCC's transactional memory, with one and four threads; and
+what a certificate costs.
 
-    scripts/native_speed.py [ROUNDS] [--txc PATH]
-
-All sides run in turn in each of the ROUNDS. It prints times of whole processes on the clock,
-the least of the rounds with one thread and the median with four, and means of their ratios: `native` with sequentially
-consistent accesses, `weak` with acquire and release. libitm runs by its method ml_wt, and by its default one. Then of
-runs with one thread and with four that wrote down their order: how many transactions, the time of the run, and time and
-memory of `txc certify`.
+Every implementation runs once in each round. It prints times of whole processes on the clock, the least of the rounds
+with one thread and the median with four, and means of their ratios: `native` with sequentially consistent accesses,
+`weak` with acquire and release. libitm runs by its method ml_wt, and by its default one. Then, for runs with one thread
+and with four that wrote down their order: how many transactions, the time of the run, and time and memory of `txc
+certify`.
 """
 
 import math
@@ -21,7 +19,7 @@ import tempfile
 import time
 
 import native
-from lib.words import TOP, TXC, asked, count, txc
+from lib.words import TOP, txc, use
 
 BENCH = f"{TOP}/examples/bench"
 WORKLOADS = f"{TOP}/scripts/workloads"
@@ -113,21 +111,17 @@ def limited():
     resource.setrlimit(resource.RLIMIT_AS, (6 << 30, 6 << 30))
 
 
-def main():
-    given = asked(__doc__, count("rounds", 9, 1), TXC)
-    os.environ["TXC"] = given.txc
+def measure(program, rounds):
+    """Prints the tables."""
+    use(program)
     with tempfile.TemporaryDirectory(prefix="native-speed-") as room:
         built(room)
         for threads in (1, 4):
             print(f"\n{threads} threads, ms: {', '.join(SIDES)}")
-            rows = measured(room, given.rounds, threads)
+            rows = measured(room, rounds, threads)
             for over, under in RATIOS:
                 print(f"{over} / {under}: {mean(rows, over, under):.2f}")
         print("\ncertificates: threads, transactions, run in ms, certificate in s, MB, what it says")
         for name in SHARED:
             for threads in (1, 4):
                 certificate(room, name, threads)
-
-
-if __name__ == "__main__":
-    main()
