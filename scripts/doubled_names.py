@@ -1,12 +1,12 @@
 #!/usr/bin/env python3
-"""Lists and counts capitalised names that two files behind public contracts define.
+"""Lists and counts capitalised names that two files of definitions both define.
 
   scripts/doubled_names.py [--inner] [--all]
 
-A contract of a public function cites definitions of specs/ that lie outside specs/inner; where two of them had one
-name, a reader would have to look at the imports to know which is meant. So no capitalised name stands twice. `--inner`
-looks into specs/inner too, `--all` counts names with a small letter as well. The last line is the count; the exit
-status is 1 where it is not 0.
+The contracts of public functions cite definitions in specs/, outside specs/inner. If two of them had the same name, a
+reader would have to look at the imports to tell them apart, so no capitalised name is defined twice. `--inner` includes
+specs/inner, `--all` names that begin with a small letter. The last line is the count; the exit status is 1 if it is not
+0.
 """
 
 import collections
@@ -21,8 +21,7 @@ DEFINED = re.compile(r"^ *(?:(?:private|opaque|unfoldable|abbrev|data|record|cla
 
 
 def definitions(path):
-    """Names that a file of definitions makes public, with their lines: within modules too.
-    Fields of records are among them."""
+    """The public names of a file of definitions, with their lines: those within modules and the fields of records too."""
     for number, line in enumerate(path.read_text().split("\n"), 1):
         found = DEFINED.match(line)
         if found:
@@ -42,7 +41,7 @@ def main():
     twice = {n: p for n, p in places.items() if len({x.split(':')[0] for x in p}) > 1}
     for name in sorted(twice):
         print(f"{name}\t{len(twice[name])}\t{'  '.join(twice[name])}")
-    print(f"{len(twice)} names stand twice, of {len(places)}")
+    print(f"{len(twice)} of {len(places)} names are defined twice")
     sys.exit(1 if twice else 0)
 
 

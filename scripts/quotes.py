@@ -1,7 +1,6 @@
 #!/usr/bin/env python3
-"""Compares what documents quote with the files that they quote: a line that is a file's path between backticks, and
-under it a block of antt or rust. A line `..` in a block stands for lines that are left out. Fails where a quotation is
-not in its file.
+"""Compares the documents' quotations with the quoted files: a line that is a file's path between backticks, followed by
+a block of antt or rust. A line `..` in a block marks lines that are left out. Fails if a quotation is not in its file.
 """
 
 import glob
@@ -26,9 +25,9 @@ def pieces(block):
 
 
 def missing(path, block):
-    """The first piece that does not stand in the file behind the ones before it."""
+    """The fault of the first piece that does not follow the earlier ones in the file."""
     if not os.path.exists(os.path.join(TOP, path)):
-        return "the file is not there"
+        return "the file does not exist"
     with open(os.path.join(TOP, path), encoding="utf-8") as file:
         lines = file.read().splitlines()
     at = 0
@@ -36,7 +35,7 @@ def missing(path, block):
         while at <= len(lines) - len(piece) and lines[at : at + len(piece)] != piece:
             at += 1
         if at > len(lines) - len(piece):
-            return f"it has not got, here, {piece[0].strip()}"
+            return f"at this point it does not have {piece[0].strip()}"
         at += len(piece)
     return None
 
@@ -53,7 +52,7 @@ def main():
             fault = missing(path, block)
             if fault:
                 wrong.append(f"{document} quotes {path}: {fault}")
-    print("\n".join(wrong) or f"{count} quotations are as their files have them")
+    print("\n".join(wrong) or f"{count} quotations match their files")
     return 1 if wrong else 0
 
 

@@ -1,60 +1,67 @@
 #!/usr/bin/env python3
-"""Counts the definitions that must be believed, one by one: keeps the tables of docs/TRUST.md, and writes
-docs/TRUST_FILES.md, which has them file by file.
+"""Counts the definitions that a reader has to trust, and keeps the table of docs/PROOFS.md.
 
-  scripts/trust.py           fails where one of the two pages is out of date
-  scripts/trust.py --write   writes the tables anew
+  scripts/trust.py           fails if the table is out of date
+  scripts/trust.py --write   writes it anew
+  scripts/trust.py --files   prints the same count crate by crate and file by file
 
-A definition must be believed where a public contract speaks by it. So the clauses of each crate's public functions are
-read (and of an `impl Model` the type of its values; how private fields keep a value is the proof's), the names in them
-are led by their `ghost use` lines to the definitions of `specs/`, and from each of these every name is followed in
-turn: to a definition, or to the Rust type or constant that a path through `declared` stands for. Where a name could be
-two things, both are followed. Counted are lines that are neither blank, nor a comment, nor an import. Fails where a
-definition that is followed stands in `specs/inner/`.
+A definition has to be trusted if a public contract speaks by it. The script reads the clauses of each crate's public
+functions (and of an `impl Model` the type of its values; how private fields keep a value is the proof's). Their `ghost
+use` lines lead to the definitions of `specs/`, and from each of these every name is followed in turn: to a definition,
+or to the Rust type or constant that a path through `declared` stands for. If a name could be two things, both are
+followed. The toolchain's own definitions are followed likewise, into the library of its logic, and counted in a column
+of their own; under another release of the toolchain than the one that the table names, that column is not compared. A
+line counts if it is neither blank, nor a comment, nor an import. The script fails if a definition that it follows lies
+in `specs/inner/`.
 """
 
 import functools
 import os
 import re
+import shutil
 import sys
 
 from lib.words import TOP, asked
 
-PAGE = f"{TOP}/docs/TRUST.md"
-FILES = f"{TOP}/docs/TRUST_FILES.md"
-FILES_HEAD = """# What must be believed, file by file
-
-Written by `scripts/trust.py`; [TRUST.md](TRUST.md) says what is counted. A heading counts the lines of one crate that
-the public contracts of any crate lead to.
-"""
-BEGIN, END = "<!-- counted: begin -->\n", "<!-- counted: end -->\n"
+PAGE = f"{TOP}/docs/PROOFS.md"
+BEGIN, END = "<!-- counted by scripts/trust.py: begin -->\n", "<!-- counted by scripts/trust.py: end -->\n"
 WORD = re.compile(r"[^\s(){}\[\],;]+")
+# Where the toolchain has the libraries of its logic.
+LIBRARIES = {"lib": "logic/Lib", "mathlib": "antt/port/mathlib/src"}
 
-# What a call of `txc` promises, and the definitions of `crates/serving/specs` that say it:
-# `serve`'s clauses name these.
+# What txc promises, and the definitions of `crates/serving/specs` with which each promise begins: the clauses of
+# `serve`, or the laws in `crates/serving/src/laws.rt`, name these.
 PROMISES = (
+    ("`txc check`", "SaysAccepted"),
+    ("`txc source`", "PrintsReport RunsInOrder"),
     ("`txc run`, by the source alone", "PrintsReport RunsInSomeOrder"),
     ("`txc run`, all", "PrintsReport RunsInSomeOrder RunsConcurrently"),
-    ("`txc source`", "PrintsReport RunsInOrder"),
-    ("`txc certify`", "CertifiesReport"),
     ("`txc outcomes`", "PrintsOutcomes"),
+    (
+        "the list is complete, and `run` prints nothing else",
+        "PrintsOutcomes PrintsReport RunsInSomeOrder OrdersAreListed",
+    ),
+    (
+        "as above, and the machine can produce each outcome",
+        "PrintsOutcomes PrintsReport RunsInSomeOrder OrdersAreListed OutcomesAreDone",
+    ),
     ("`txc outcomes --always`, `--final`", "AnswersQuestions"),
     ("`txc outcomes --refines`, `--expect`", "ComparesOutcomes"),
+    ("`txc certify`", "CertifiesReport"),
     ("`txc replay`, by the source alone", "PrintsReport RunsInSomeOrder behind_events"),
     ("`txc replay`, all", "PrintsReport RunsInSomeOrder behind_events Replays"),
     ("`txc replay --timeline`", "PrintsTimeline RunsInSomeOrder behind_events ReplaysShown"),
     ("`txc replay --picture`", "PrintsPicture ReplaysDrawn"),
     ("`txc replay --print-schedule`", "PrintsSchedule lines_of_seed PrintsOrder"),
-    ("`txc check`", "SaysAccepted"),
     ("`txc listing`", "PrintsListing"),
-    ("a refusal by `check`, `source`, `certify` (status 1)", "IsRefused"),
-    ("a refusal where code is made (status 1)", "HasNoCode"),
+    ("a rejection by `check`, `source`, `certify` (status 1)", "IsRefused"),
+    ("a rejection by a command that generates code (status 1)", "HasNoCode"),
     ("what is written, whatever the status", "WritesFor"),
-    ("`serve`: all of these", "AnswersRequest WritesFor IsRequestRefused"),
-    ("`serve_words`: all of these, and what words ask", "AnswersWords"),
+    ("`serve`: every command", "AnswersRequest WritesFor IsRequestRefused"),
+    ("`serve_words`: every command, from its words", "AnswersWords"),
 )
 
-# What of them is said by the source, with the code that `listing` prints and that means it; the rest speaks of the machine.
+# The promises that speak of the source alone, with the code that `listing` prints; the others speak of the machine.
 BY_SOURCE = (
     "SaysAccepted PrintsListing PrintsReport RunsInSomeOrder CertifiesReport PrintsOutcomes AnswersQuestions"
     " ComparesOutcomes IsRefused"
@@ -73,6 +80,42 @@ def crates():
     return [it.partition(":")[0].split()[0] for it in lines if ":" in it]
 
 
+@functools.lru_cache(maxsize=None)
+def kit():
+    """The toolchain's folder of crates."""
+    rt = shutil.which("rt")
+    if not rt:
+        sys.exit("rt is not on the path: scripts/trust.py follows definitions into the toolchain's folder")
+    return f"{os.path.dirname(os.path.dirname(os.path.realpath(rt)))}/rattle"
+
+
+def kit_name():
+    """The toolchain's release, as the table names it."""
+    return f"Toolchain ({read(f'{os.path.dirname(kit())}/KIT-ID').split()[0].removeprefix('rattle-')})"
+
+
+@functools.lru_cache(maxsize=None)
+def folder_of(crate):
+    """The folder of a crate: one of the repository's, by its path from the top, or one of the toolchain's."""
+    return f"crates/{crate}" if os.path.isdir(f"{TOP}/crates/{crate}") else f"{kit()}/{crate}"
+
+
+def is_kit(it):
+    """Whether a definition or type is the toolchain's."""
+    return it[0].startswith("/")
+
+
+@functools.lru_cache(maxsize=None)
+def home(it):
+    """The crate of a definition or type."""
+    return os.path.relpath(it[0], kit()).split("/")[0] if is_kit(it) else it[0].split("/")[1]
+
+
+def whole(file):
+    """The path of a file."""
+    return os.path.join(TOP, file)
+
+
 def counted(lines):
     """How many of these lines are neither blank nor a comment."""
     return sum(1 for it in lines if it.strip() and not it.strip().startswith(("--", "//", "#[")))
@@ -82,17 +125,28 @@ def counted(lines):
 
 
 def file_of(path):
-    """The file of specs/ that a path lies in, if it is one of the repository's, and what the path names in it."""
+    """The file that a path lies in, of the repository's or the toolchain's specs/ or of its logic's libraries, and what
+    the path names in it."""
     parts = path.split(".")
-    if len(parts) < 4 or parts[0] != "Rattle" or parts[2] != "specs" or not os.path.isdir(f"{TOP}/crates/{parts[1]}"):
+    if parts[0] in LIBRARIES:
+        root, at = f"{kit()}/{LIBRARIES[parts[0]]}", 1
+    elif len(parts) > 3 and parts[0] == "Rattle" and parts[2] == "specs":
+        root, at = f"{folder_of(parts[1])}/specs", 3
+    else:
         return None, []
-    for to in range(len(parts), 3, -1):
-        file = f"crates/{parts[1]}/specs/{'/'.join(parts[3:to])}.antt"
-        if os.path.isfile(f"{TOP}/{file}"):
+    for to in range(len(parts), at, -1):
+        file = f"{root}/{'/'.join(parts[at:to])}.antt"
+        if os.path.isfile(whole(file)):
             return file, parts[to:]
+    # `Rattle.std.specs.List` is a module that std/specs/Lib.antt passes on.
+    if os.path.isfile(whole(f"{root}/Lib.antt")):
+        for other, name, _ in imports(read(whole(f"{root}/Lib.antt")), "pub use"):
+            if name == parts[at]:
+                return file_of(".".join([other, *parts[at + 1 :]]))
     return None, []
 
 
+@functools.lru_cache(maxsize=None)
 def imports(text, keyword):
     """What a file imports: each path with the name that it has here, and whether this is a module's."""
     found = []
@@ -130,9 +184,9 @@ def is_start(line, depth):
 
 @functools.lru_cache(maxsize=None)
 def items(file):
-    """The items of a file: the lines and names of each. A module's head is one, and what stands in it are more."""
+    """The items of a file, each with its lines and names. A module's head is one, and the items in it are others."""
     out, depths, in_head = [], [0], False
-    for line in read(f"{TOP}/{file}").split("\n"):
+    for line in read(whole(file)).split("\n"):
         if not line.strip() or line.strip().startswith("--") or re.match(r"\s*(pub )?(unfoldable )?use ", line):
             continue
         indent = len(line) - len(line.lstrip())
@@ -150,7 +204,7 @@ def items(file):
 
 
 def parts_of(name):
-    """What stands for a name in a text: a name with gaps is written by its parts."""
+    """The words by which a text has a name: a name with gaps is written as its parts."""
     return [it for it in name.split("◌") if it]
 
 
@@ -161,12 +215,12 @@ def is_named(name, words, text):
 
 
 def uncommented(lines):
-    """A text of these lines without their comments. Where `--` stands in a text in quotes, a letter follows it."""
+    """A text of these lines without their comments. A letter follows a `--` that is within quotes."""
     return "\n".join(re.split(r"--(?!\w)", it)[0] for it in lines)
 
 
 def words_of(text):
-    """The words of a text, each up to its first full stop: behind it stand fields."""
+    """The words of a text, each up to its first full stop, after which fields follow."""
     return {it.split(".")[0] for it in WORD.findall(text)}
 
 
@@ -177,12 +231,13 @@ def item_at(file, names):
         if any(it in own for it in names):
             found.add((file, at))
     if not found:
-        for path, name, _ in imports(read(f"{TOP}/{file}"), "pub use"):
+        for path, name, _ in imports(read(whole(file)), "pub use"):
             if name in names:
                 found |= meant(path)
     return found
 
 
+@functools.lru_cache(maxsize=None)
 def meant(path):
     """What a path means: definitions, or a Rust type or constant."""
     parts = path.split(".")
@@ -212,17 +267,19 @@ def led(text, keyword, here):
 @functools.lru_cache(maxsize=None)
 def sources(crate):
     """The files of a crate's code."""
-    src = f"{TOP}/crates/{crate}/src"
-    found = [f"{at}/{it}" for at, _, names in os.walk(src) for it in names if it.endswith(".rt")]
-    return tuple(sorted(os.path.relpath(it, TOP) for it in found))
+    found = [
+        f"{at}/{it}" for at, _, names in os.walk(whole(f"{folder_of(crate)}/src")) for it in names if it.endswith(".rt")
+    ]
+    return tuple(sorted(os.path.relpath(it, TOP) if it.startswith(f"{TOP}/") else it for it in found))
 
 
+@functools.lru_cache(maxsize=None)
 def block(file, name):
     """The lines of a type or constant of this name in a file."""
     found = re.search(
         rf"(?ms)^(?:pub(?:\(crate\))? )?(?:enum|struct) {name}\b.*?(?:^\}}|;)$"
         rf"|^(?:pub(?:\(crate\))? )?const {name}\b.*?;$",
-        read(f"{TOP}/{file}"),
+        read(whole(file)),
     )
     return found[0].split("\n") if found else None
 
@@ -241,10 +298,10 @@ def rust_at(crate, parts):
 def rust_led(file, name):
     """The types of the repository that a type's fields name."""
     text, out = "\n".join(it.split("//")[0] for it in block(file, name)), set()
-    crate = file.split("/")[1]
+    crate = home((file, name))
     for word in set(re.findall(r"\b[A-Z]\w+", text)) - {name}:
         homes = [file] + [it for it in sources(crate)]
-        for other in re.findall(rf"(?m)^use (\w+)::[^;]*\b{word}\b", read(f"{TOP}/{file}")):
+        for other in re.findall(rf"(?m)^use (\w+)::[^;]*\b{word}\b", read(whole(file))):
             homes += sources(other)
         found = [it for it in homes if block(it, word)]
         if found:
@@ -351,7 +408,7 @@ def next_of(it):
         if items(file)[n][0][0].lstrip().startswith("module ") and lines[0].startswith(" ")
     }
     return frozenset(
-        here | ({max(heads)} if heads else set()) | led(text, r"(?:pub )?(?:unfoldable )?use", read(f"{TOP}/{file}"))
+        here | ({max(heads)} if heads else set()) | led(text, r"(?:pub )?(?:unfoldable )?use", read(whole(file)))
     )
 
 
@@ -365,34 +422,39 @@ def reached(begin):
     return seen
 
 
-def lines_in(believed):
-    """How many lines these have: of definitions, and of Rust types and constants."""
-    definitions = sum(counted(items(file)[at][0]) for file, at in believed if not is_rust((file, at)))
-    return definitions, sum(counted(block(file, name)) for file, name in believed if is_rust((file, name)))
+def lines_in(trusted):
+    """How many lines these have: the repository's definitions, its Rust types and constants, and the toolchain's of
+    both kinds."""
+    lines = {it: counted(block(*it) if is_rust(it) else items(it[0])[it[1]][0]) for it in trusted}
+    return (
+        sum(n for it, n in lines.items() if not is_kit(it) and not is_rust(it)),
+        sum(n for it, n in lines.items() if not is_kit(it) and is_rust(it)),
+        sum(n for it, n in lines.items() if is_kit(it)),
+    )
 
 
 # ---- the tables
 
 
-def says(file):
+def first_sentence(file):
     """The first sentence of the comment that a file begins with."""
     lines = []
-    for line in read(f"{TOP}/{file}").split("\n"):
+    for line in read(whole(file)).split("\n"):
         if not line.startswith("--"):
             break
         lines.append(line.lstrip("- ").rstrip())
-    text = re.split(r"(?<=[.])\s", " ".join(it for it in lines if it))[0]
-    return text.replace("|", "\\|") or "no word on it yet"
+    return re.split(r"(?<=[.])\s", " ".join(it for it in lines if it))[0]
 
 
 def promised(names):
     """The definitions of `serving` that say a promise: names that its clauses or its answers have."""
     specs, code = f"{TOP}/crates/serving/specs", f"{TOP}/crates/serving/src"
-    said = words_of(read(f"{specs}/Answers.antt") + "".join(read(f"{code}/{it}") for it in sorted(os.listdir(code))))
+    cited_there = "".join(read(f"{code}/{it}") for it in sorted(os.listdir(code)))
+    said = words_of(read(f"{specs}/Answers.antt") + cited_there)
     out = set()
     for name in names.split():
         if name not in said:
-            sys.exit(f"no clause of serving speaks of {name}")
+            sys.exit(f"no clause of serving cites {name}")
         found = set().union(
             *(item_at(f"crates/serving/specs/{it}", [name]) for it in sorted(os.listdir(specs)) if it.endswith(".antt"))
         )
@@ -402,62 +464,55 @@ def promised(names):
     return out
 
 
-def home(it):
-    return it[0].split("/")[1]
-
-
 def row(first, begin, known=frozenset()):
-    """A row of a table: the lines that these lead to, but for those that are known."""
-    believed = reached(begin) - known
-    definitions, rust = lines_in(believed)
-    return f"| {first} | {definitions:,} | {rust:,} | {len({file for file, _ in believed})} |"
+    """A row of the table: the lines that these lead to, without those that are known."""
+    trusted = reached(begin) - known
+    files = {file for file, _ in trusted if not is_kit((file, 0))}
+    definitions, rust, toolchain = lines_in(trusted)
+    return f"| {first} | {definitions:,} | {rust:,} | {len(files)} | {toolchain:,} |"
 
 
 def promise_table():
+    """The table of promises with their lines."""
     out = [
-        "| Promise | Begins at | Lines of definitions | Lines of Rust types and limits | Files |",
-        "|---|---|---|---|---|",
+        f"| Promise | Begin reading at | Definitions | Rust types and limits | Files | {kit_name()} |",
+        "|---|---|---|---|---|---|",
     ]
     for title, names in PROMISES:
         out.append(row(f"{title} | {', '.join(f'`{it}`' for it in names.split())}", promised(names)))
-    by_source = ", ".join(f"`{it}`" for it in BY_SOURCE.split())
-    out.append(row(f"of these, what is said by the source | {by_source}", promised(BY_SOURCE)))
+    out.append(row("every promise that speaks of the source alone | as named above", promised(BY_SOURCE)))
     of_source = reached(promised(BY_SOURCE))
-    besides = "what is said besides, by words, by limits of code and by the machine | the others"
-    out.append(row(besides, promised(PROMISES[-1][1]), of_source))
+    rest = "the other promises, beyond those lines | as named above"
+    out.append(row(rest, promised(PROMISES[-1][1]), of_source))
     return out + [""]
 
 
-def crate_table(by_crate):
-    out = [
-        "| Crate | Lines of definitions that its public contracts stand on | Lines of Rust types and limits | Files |",
-        "|---|---|---|---|",
-    ]
-    return out + [row(f"`{crate}`", begin) for crate, begin in by_crate.items() if begin] + [""]
-
-
-def file_tables(by_crate, believed):
-    out = []
-    for crate in by_crate:
-        here = {it for it in believed if home(it) == crate}
-        if here:
-            definitions, rust = lines_in(here)
-            out += [
-                f"## `{crate}`: {definitions:,} lines, and {rust:,} of Rust types and limits",
-                "",
-                "| File | Lines | Says |",
-                "|---|---|---|",
-            ]
-            for file in sorted({file for file, _ in here}):
-                lines = sum(lines_in({it for it in here if it[0] == file}))
-                short = file.split("/", 2)[2]
-                names = ", ".join(f"`{it[1]}`" for it in sorted(here, key=str) if it[0] == file and is_rust(it))
-                out.append(f"| `{short}` | {lines} | {says(file) if file.endswith('.antt') else names} |")
-            out.append("")
+def file_lists(by_crate, trusted):
+    """The trusted lines, crate by crate and file by file."""
+    out, homes = [], {home(it) for it in trusted}
+    for crate in [*(it for it in by_crate if it in homes), *sorted(homes - set(by_crate))]:
+        here = {it for it in trusted if home(it) == crate}
+        definitions, rust, toolchain = lines_in(here)
+        if definitions + rust + toolchain == 0:
+            continue
+        if crate in by_crate:
+            own = lines_in(reached(by_crate[crate]))
+            out.append(f"{crate}: {definitions:,} lines of definitions, {rust:,} of Rust types and limits")
+            if by_crate[crate]:
+                out.append(f"  its own public contracts depend on {own[0]:,} and {own[1]:,} lines of all crates")
+        else:
+            out.append(f"{crate} (toolchain): {toolchain:,} lines")
+        for file in sorted({file for file, _ in here}):
+            there = {it for it in here if it[0] == file}
+            short = file[len(folder_of(crate)) + 1 :]
+            names = ", ".join(it[1] for it in sorted(there, key=str) if is_rust(it))
+            says = first_sentence(file) if short.endswith(".antt") else names
+            out.append(f"  {sum(lines_in(there)):5}  {short}: {says}")
+        out.append("")
     return out
 
 
-def rest_of(by_crate, believed):
+def rest_of(by_crate, trusted):
     """The definitions of `specs/` that no public contract leads to, by their files; and those of `specs/inner/` that
     one does."""
     rest, hidden = [], []
@@ -470,53 +525,50 @@ def rest_of(by_crate, believed):
                     if counted(lines) and not all(re.match(r"\s*(--|pub mod |infix)", it) for it in lines)
                 }
                 if "/specs/inner" in file:
-                    hidden += [f"{file}: {', '.join(items(file)[n][1])}" for _, n in sorted(own & believed)]
-                elif own - believed:
-                    rest.append((file, lines_in(own - believed)[0]))
+                    hidden += [f"{file}: {', '.join(items(file)[n][1])}" for _, n in sorted(own & trusted)]
+                elif own - trusted:
+                    rest.append((file, lines_in(own - trusted)[0]))
     return rest, hidden
 
 
-def tables():
-    """The tables by promise and by crate, and those by file."""
+def counts():
+    """The table with its total, and the lists by file."""
     by_crate = {crate: cited(crate) for crate in crates()}
-    believed = reached(set().union(*by_crate.values()))
-    definitions, rust = lines_in(believed)
-    rest, hidden = rest_of(by_crate, believed)
+    trusted = reached(set().union(*by_crate.values()))
+    definitions, rust, toolchain = lines_in(trusted)
+    rest, hidden = rest_of(by_crate, trusted)
     if hidden:
-        sys.exit("behind a public contract, and yet in specs/inner/: " + "; ".join(hidden))
-    out = promise_table()
-    out += [
-        f"**{definitions:,} lines of definitions and {rust:,} of Rust types and limits** must be believed for all"
-        " public contracts together. What each crate's own stand on:",
-        "",
-    ]
-    files = [FILES_HEAD] + file_tables(by_crate, believed)
+        sys.exit("a public contract leads into specs/inner/: " + "; ".join(hidden))
+    total = (
+        f"All public contracts together depend on **{definitions:,} lines of definitions and {rust:,} of Rust types and"
+        f" limits**,\nand on {toolchain:,} of the toolchain's."
+    )
+    files = file_lists(by_crate, trusted)
     if rest:
-        files += [
-            f"In `specs/` and behind no public contract, {sum(it for _, it in rest):,} lines: "
-            + ", ".join(f"`{file[len('crates/'):]}` ({lines})" for file, lines in rest)
-            + ".",
-            "",
-        ]
-    return "\n".join(out + crate_table(by_crate) + [""]), "\n".join(files)
+        files.append(f"no public contract leads to {sum(it for _, it in rest):,} lines of specs/:")
+        files += [f"  {lines:5}  {file}" for file, lines in rest]
+    return "\n".join(["", *promise_table(), total, "", ""]), "\n".join(files)
+
+
+def without_toolchain(text):
+    """A page without its counts of the toolchain's lines."""
+    return re.sub(r"(?m) Toolchain \([\w-]+\) \|$| [\d,]+ \|$|^and on [\d,]+ of the toolchain's", "", text)
 
 
 def main():
-    given = asked(__doc__, "--write")
-    page, (made, by_file) = read(PAGE), tables()
+    given = asked(__doc__, "--write", "--files")
+    page, (made, by_file) = read(PAGE), counts()
     if BEGIN not in page or END not in page:
-        sys.exit("docs/TRUST.md has no place for the tables")
-    pages = {PAGE: page[: page.index(BEGIN)] + BEGIN + "\n" + made + page[page.index(END) :], FILES: by_file}
-    stale = [it for it, text in pages.items() if not os.path.exists(it) or read(it) != text]
-    if given.write:
-        for it in stale:
-            with open(it, "w", encoding="utf-8") as file:
-                file.write(pages[it])
-    elif stale:
-        print(
-            f"{' and '.join(os.path.relpath(it, TOP) for it in stale)} out of date: scripts/trust.py --write makes the"
-            " tables anew, and the change is to be looked at"
-        )
+        sys.exit("docs/PROOFS.md has no place for the table")
+    now = page[: page.index(BEGIN)] + BEGIN + made + page[page.index(END) :]
+    if given.files:
+        print(by_file)
+    elif given.write:
+        if now != page:
+            with open(PAGE, "w", encoding="utf-8") as file:
+                file.write(now)
+    elif now != page and (kit_name() in page or without_toolchain(now) != without_toolchain(page)):
+        print("docs/PROOFS.md is out of date: run scripts/trust.py --write and review what changed")
         return 1
     else:
         print(re.search(r"\*\*(.*?)\*\*", made)[1])
