@@ -24,7 +24,7 @@ from lib.words import TOP, TXC, asked, count, txc
 
 # What `txc certify` says by its exit status.
 CERTIFIED, REFUTED = 0, 5
-RUNS = 10
+RUNS = 60
 # Money goes from account to account, and their sum is looked at before each transfer, and in it.
 CONTENDED = """int account[512];
 unsigned wrong;
@@ -113,7 +113,7 @@ def hold(seed, room, came):
 
 
 def refused(name, room):
-    """How many runs of a program with a fault planted are not certified."""
+    """The first run of a program with a fault planted that is not certified, if there is one."""
     text, header, old, new = FAULTS[name]
     headers = f"{room}/headers"
     shutil.copytree(native.HEADERS, headers, dirs_exist_ok=True)
@@ -123,7 +123,8 @@ def refused(name, room):
     native.write(f"{headers}/{header}", right.replace(old, new))
     native.write(f"{room}/fault.c", text)
     native.compiled(native.text_of(f"{room}/fault.c"), f"{room}/fault", headers=headers)
-    return sum(is_certified(f"{room}/fault.c", f"{room}/fault", 4)[0] is False for _ in range(RUNS))
+    runs = (is_certified(f"{room}/fault.c", f"{room}/fault", 4)[0] for _ in range(RUNS))
+    return next((number for number, certified in enumerate(runs, 1) if certified is False), None)
 
 
 def main():
@@ -136,9 +137,9 @@ def main():
         print(f"{given.programs} programs: {', '.join(f'{many} runs {what}' for what, many in came.most_common())}")
         unseen = []
         for name in FAULTS:
-            many = refused(name, room)
-            print(f"{name}: {many} of {RUNS} runs not certified")
-            unseen += [name] * (many == 0)
+            first = refused(name, room)
+            print(f"{name}: " + (f"run {first} is not certified" if first else f"all {RUNS} runs are certified"))
+            unseen += [name] * (first is None)
     return 1 if unseen or came["not certified"] else 0
 
 
