@@ -98,10 +98,10 @@ def explanation(cells, instead):
     number, words, when, *rest = cells
     if len(rest) == 3:
         place, example, at = rest
-        more = f"Place: {place}\nExample: {shown(example)}\nIt is told at: {at}\n"
+        more = f"Place: {place}\nExample: {shown(example)}\nReported at: {at}\n"
     else:
         more = f"Seen as: {shown(rest[0])}\n" if rest else ""
-    more += f"Write: {instead[number]}\n" if number in instead else ""
+    more += f"Fix: {instead[number]}\n" if number in instead else ""
     return f"fault {number}: {words}\nWhen: {when}\n{more}"
 
 
@@ -217,7 +217,7 @@ def main():
     page, code = read("docs/ERRORS.md"), read("crates/serving_tests/src/refusals.rt")
     parts, wrong = re.split(r"^## ", page, flags=re.M), []
     told = [row for name in ("TOLD", "LONG") for row in tested(code, name)]
-    here = documented(next(it for it in parts if it.startswith("A source is refused")))
+    here = documented(next(it for it in parts if it.startswith("Source errors")))
     wrong += [f"no test has the example of {row[1]:02} at {row[2]}: {row[0][:80]!r}" for row in here if row not in told]
     wrong += [f"the page has no example of {row[1]:02} at {row[2]}: {row[0][:80]!r}" for row in told if row not in here]
     words = {int(number): text for number, text in re.findall(rf"(\d+) => {TEXT}", read("crates/messages/src/table.rt"))}

@@ -14,36 +14,36 @@ use std::alloc::{AllocError, Allocator};
 /// What is told beside a fault of this number, whatever stands at its place.
 fn of_number(number: u32) -> Option<&'static str> {
     match number {
-        2 => Some("the greatest number is 9223372036854775807, and with u behind it 4294967295"),
+        2 => Some("the largest constant is 9223372036854775807, or 4294967295 with the suffix u"),
         3 => Some("a comment that begins with /* ends with */"),
         5 => Some("a source has at most 1,048,576 bytes"),
         6 => Some(
-            "there are no macros: #include lines alone are passed over; write the number, or a global",
+            "there are no macros, and #include lines are ignored: write the number, or a global",
         ),
-        11 => Some("a program is at most 100 deep"),
-        24 => Some("on the left of an assignment stands a variable or an element of an array"),
+        11 => Some("a program nests at most 100 deep"),
+        24 => Some("the left side of an assignment must be a variable or an element of an array"),
         25 => Some(
-            "an array has 1 to 4096 cells and no more values than cells; all globals together have at most 4096",
+            "an array has 1 to 4096 cells and no more values than cells; all globals together have at most 4096 cells",
         ),
-        26 => Some("a loop of the same function stands round it"),
+        26 => Some("it must be inside a loop of the same function"),
         27 => Some(CONVERSIONS),
-        29 => Some("it is declared, and no definition follows"),
-        41 => Some("a relaxed transaction can't be undone, so it stands in no atomic one"),
+        29 => Some("it is declared but never defined"),
+        41 => Some("a relaxed transaction can't be undone, so it can't be inside an atomic one"),
         42 => Some(
-            "a cancel stands in the text of the __transaction_atomic that it undoes, and not in a function called there",
+            "a cancel must be inside the text of the __transaction_atomic it undoes, not in a function called there",
         ),
         43 => Some(
-            "it prints, begins a relaxed transaction or is marked unsafe, itself or by its calls",
+            "it or a function it calls prints, begins a relaxed transaction or is marked unsafe",
         ),
-        44 => Some("an outer transaction is the outermost one: no atomic one is round it"),
-        45 => Some("an outer cancel stands in the text of a __transaction_atomic [[outer]]"),
+        44 => Some("an outer transaction must be outermost: it can't be inside an atomic one"),
+        45 => Some("an outer cancel must be inside the text of a __transaction_atomic [[outer]]"),
         50 => Some(
-            "write __transaction_atomic { .. } round it, or __transaction_atomic ( .. ) round an expression",
+            "put it in __transaction_atomic { .. }, or an expression in __transaction_atomic ( .. )",
         ),
         51 => Some(
-            "write __transaction_atomic { .. } round the call, or in the function, round what it uses",
+            "put the call in __transaction_atomic { .. }, or the shared accesses inside the function",
         ),
-        62 => Some("a function has at most 16 transactions inside one another"),
+        62 => Some("transactions nest at most 16 deep in a function"),
         _ => None,
     }
 }
@@ -51,9 +51,9 @@ fn of_number(number: u32) -> Option<&'static str> {
 /// What is told of a word that may not stand in an atomic transaction.
 fn of_unsafe(word: &str) -> &'static str {
     if word == "printf" {
-        "a print can't be undone: it stands behind the transaction, or in __transaction_relaxed"
+        "a print can't be undone: move it after the transaction, or use __transaction_relaxed"
     } else {
-        "it is not safe: it prints, begins a relaxed transaction or is marked unsafe, itself or by its calls"
+        "it is not safe: it or a function it calls prints, begins a relaxed transaction or is marked unsafe"
     }
 }
 

@@ -5,12 +5,12 @@ const NO_FLOATING: &str = "there are no floating constants";
 /// What is told of a letter or a digit right behind a constant, which ends in the byte before it.
 fn of_letter(before: u8, byte: u8) -> &'static str {
     match (before, byte) {
-        (b'0', b'x' | b'X') => "hexadecimal digits stand behind 0x",
-        (b'0', b'b' | b'B') => "there are no binary constants: write them in decimal, or behind 0x",
-        (_, b'8' | b'9') => "a constant that begins with 0 is octal, and has no 8 or 9",
+        (b'0', b'x' | b'X') => "hexadecimal digits must follow 0x",
+        (b'0', b'b' | b'B') => "there are no binary constants: use decimal, or 0x",
+        (_, b'8' | b'9') => "a constant that begins with 0 is octal: its digits are 0 to 7",
         (_, b'e' | b'E' | b'f' | b'F') => NO_FLOATING,
         (_, b'l' | b'L' | b'u' | b'U') => "a constant's suffix is u or ll",
-        (_, b'_' | b'\'') => "no character separates a constant's digits",
+        (_, b'_' | b'\'') => "a constant's digits have no separators",
         _ => "a constant's suffix is u or ll, and a name begins with a letter or _",
     }
 }
@@ -19,13 +19,13 @@ fn of_letter(before: u8, byte: u8) -> &'static str {
 fn of_byte(byte: u8) -> Option<&'static str> {
     match byte {
         b'\'' => Some(
-            "there are no character constants: write the number; characters stand in a format alone",
+            "there are no character constants: write the number, or put the character in a format",
         ),
-        b'.' => Some("there are no structs: write an array for each member"),
-        b'\\' => Some("no line goes on behind a backslash, and an escape stands in a string alone"),
-        b'#' => Some("a directive stands alone on its line"),
-        b'@' | b'$' | b'`' => Some("no name and no operator has this character"),
-        0..=0x1f | 0x7f => Some("a control character: only white space may stand here"),
+        b'.' => Some("there are no structs: use one array per member"),
+        b'\\' => Some("a backslash does not continue a line, and escapes are allowed only in strings"),
+        b'#' => Some("a directive must be alone on its line"),
+        b'@' | b'$' | b'`' => Some("no name or operator contains this character"),
+        0..=0x1f | 0x7f => Some("a control character: only white space is allowed here"),
         _ => None,
     }
 }
@@ -34,15 +34,15 @@ fn of_byte(byte: u8) -> Option<&'static str> {
 fn of_bytes(bytes: &[u8]) -> &'static str {
     match bytes {
         [0xef, 0xbb, 0xbf, ..] => "U+FEFF, a byte order mark: save the file without it",
-        [0xc2, 0xa0, ..] => "U+00A0, a no-break space: write a space",
+        [0xc2, 0xa0, ..] => "U+00A0, a no-break space: use an ordinary space",
         [0xe2, 0x80, 0x98 | 0x99, ..] =>
-            "a quotation mark of a word processor, and there are no character constants",
+            "a typographic quotation mark, and there are no character constants",
         [0xe2, 0x80, 0x9c | 0x9d, ..] =>
-            "a quotation mark of a word processor: a string stands between \" and \"",
+            "a typographic quotation mark: a string begins and ends with \"",
         [0xe2, 0x80, 0x93 | 0x94, ..] | [0xe2, 0x88, 0x92, ..] =>
-            "a dash of a word processor: minus is -",
-        [0xe2, 0x80, 0x8b, ..] => "U+200B, a space without width: take it out",
-        _ => "outside of comments a source has characters of ASCII alone",
+            "a typographic dash: minus is -",
+        [0xe2, 0x80, 0x8b, ..] => "U+200B, a zero-width space: remove it",
+        _ => "only comments may contain characters outside ASCII",
     }
 }
 
@@ -76,15 +76,15 @@ pub(crate) fn of_string(from: &[u8]) -> &'static str {
     'bytes: for (at, byte) in from.iter().enumerate() {
         if at > 0 {
             match *byte {
-                b'\n' => return "a string ends on its line, with a quotation mark",
+                b'\n' => return "a string must end on its line, with a quotation mark",
                 b'\\' if !is_escaped => is_escaped = true,
                 b'n' | b't' | b'"' | b'\\' if is_escaped => is_escaped = false,
                 _ if is_escaped => return "the escapes are \\n, \\t, \\\" and \\\\",
                 0..=0x1f | 0x7f..=0xff =>
-                    return "a string has characters of ASCII alone, and no control characters",
+                    return "a string may contain only printable ASCII characters",
                 _ => {}
             }
         }
     }
-    "a string ends on its line, with a quotation mark"
+    "a string must end on its line, with a quotation mark"
 }

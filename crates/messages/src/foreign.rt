@@ -8,35 +8,35 @@ type Row = (&'static str, &'static str);
 
 pub(crate) const TYPES: &str = "the types are int, unsigned and long long";
 
-const NO_TYPES: &str = "there are no types but int, unsigned and long long";
+const NO_TYPES: &str = "the only types are int, unsigned and long long";
 
-const SWITCH: &str = "there is no switch: write if and else";
+const SWITCH: &str = "there is no switch: use if and else";
 
-const NO_WORD: &str = "there is no such word here: leave it out";
+const NO_WORD: &str = "this keyword is not supported: leave it out";
 
-const DECLARATIONS: &str = "declarations are as in C: int x = 1; and int f(int a) { .. }";
+const DECLARATIONS: &str = "write declarations as in C: int x = 1; and int f(int a) { .. }";
 
 const TRANSACTIONS: &str =
-    "the words are __transaction_atomic, __transaction_relaxed and __transaction_cancel";
+    "the keywords are __transaction_atomic, __transaction_relaxed and __transaction_cancel";
 
-const OPERATORS: &str = "the operators are &&, || and !";
+const OPERATORS: &str = "the logical operators are &&, || and !";
 
-const LIBRARY: &str = "the only function of C's library is printf";
+const LIBRARY: &str = "printf is the only function of C's library";
 
-const TRUTH: &str = "numbers alone are constants: write 0 or 1";
+const TRUTH: &str = "only numbers are constants: write 0 or 1";
 
-const LIMITS: &str = "numbers alone are constants: write the number";
+const LIMITS: &str = "only numbers are constants: write the number";
 
-const LOCKS: &str = "there are no locks: write __transaction_atomic { .. } round what is shared";
+const LOCKS: &str = "there are no locks: access shared variables in __transaction_atomic { .. }";
 
-const SHARED: &str = "a shared variable is a plain global: use it in __transaction_atomic { .. }";
+const SHARED: &str = "a shared variable is an ordinary global: access it in __transaction_atomic { .. }";
 
-const THREADS: &str = "threads come of --threads T, and transactions are their locks";
+const THREADS: &str = "the option --threads T starts threads, and transactions replace locks";
 
 const WAITS: &str =
-    "a thread waits in a loop with a transaction in it: while (!done) { __transaction_atomic { .. } }";
+    "to wait, repeat a transaction: while (!done) { __transaction_atomic { .. } }";
 
-const OWN: &str = "all threads share each global: what is one thread's own is a local variable";
+const OWN: &str = "all threads share each global: use a local variable for a thread's own data";
 
 /// Reserved words of C that have no place here.
 fn reserved() -> &'static [Row] {
@@ -52,11 +52,11 @@ fn reserved() -> &'static [Row] {
         ("switch", SWITCH),
         ("case", SWITCH),
         ("default", SWITCH),
-        ("goto", "there is no goto: write a loop, break and continue"),
+        ("goto", "there is no goto: use a loop with break or continue"),
         ("sizeof", "there is no sizeof: write the number"),
         (
             "static",
-            "there is no static: leave it out, or let a variable be global",
+            "there is no static: leave it out, or make the variable global",
         ),
         ("const", NO_WORD),
         ("extern", NO_WORD),
@@ -66,7 +66,7 @@ fn reserved() -> &'static [Row] {
         ("restrict", NO_WORD),
         (
             "auto",
-            "there is no auto: each variable has a type, int, unsigned or long long",
+            "there is no auto: declare the variable as int, unsigned or long long",
         ),
     ];
     &ROWS
@@ -127,7 +127,7 @@ fn foreign_names() -> &'static [Row] {
         ("not", OPERATORS),
         (
             "then",
-            "a statement follows the condition of if: there is no then",
+            "there is no then: a statement follows the condition of an if",
         ),
     ];
     &ROWS
@@ -150,7 +150,7 @@ fn library() -> &'static [Row] {
         ("abort", LIBRARY),
         (
             "assert",
-            "there is no assert: 1 / (x > 0); traps where x > 0 does not hold",
+            "there is no assert: 1 / (x > 0); traps if x > 0 is false",
         ),
         ("sleep", LIBRARY),
         ("usleep", LIBRARY),
@@ -185,12 +185,12 @@ fn beginnings() -> &'static [Row] {
         ("cnd_", WAITS),
         (
             "pthread_self",
-            "a thread's number is the parameter of its worker",
+            "a thread's number is the parameter of worker",
         ),
         ("pthread_", THREADS),
         (
             "thrd_current",
-            "a thread's number is the parameter of its worker",
+            "a thread's number is the parameter of worker",
         ),
         ("thrd_", THREADS),
         ("atomic_flag", LOCKS),
@@ -213,7 +213,7 @@ fn told_of(rows: &[Row], word: &str) -> Option<&'static str> {
 
 /// What is told of a reserved word of C that has no place in txc's.
 pub(crate) fn of_reserved(word: &str) -> &'static str {
-    told_of(reserved(), word).unwrap_or("it is no word of txc's C")
+    told_of(reserved(), word).unwrap_or("it is not a keyword of txc's C")
 }
 
 /// What is told of a token that is a foreign name, which the source declares nowhere.

@@ -6,7 +6,7 @@ use lex::token::{Keyword, Kind, Punctuator, Token};
 
 /// What is told of conversions and of arguments of other types.
 pub(crate) const CONVERSIONS: &str =
-    "%d stands for an int, %u for an unsigned and %lld for a long long, one argument each; there is no other";
+    "the conversions are %d (int), %u (unsigned) and %lld (long long), with one argument each";
 
 /// Whether a byte may stand between the `%` and the last byte of a specifier.
 fn is_inside(byte: u8) -> bool {
@@ -77,9 +77,9 @@ fn read_format(format: &str, wanted: u64) -> Conversions<'_> {
 /// What is told of an argument of another type than the one that a conversion prints.
 fn printed(conversion: &str) -> Option<&'static str> {
     match conversion {
-        "%d" => Some("%d prints it, and wants an int"),
-        "%u" => Some("%u prints it, and wants an unsigned"),
-        "%lld" => Some("%lld prints it, and wants a long long"),
+        "%d" => Some("%d prints it and needs an int"),
+        "%u" => Some("%u prints it and needs an unsigned"),
+        "%lld" => Some("%lld prints it and needs a long long"),
         _ => None,
     }
 }
@@ -96,8 +96,8 @@ fn is_alone(conversion: &str) -> bool {
 /// Tells of a conversion that there is not.
 fn of_unknown(conversion: &str) -> Line<'_> {
     match conversion {
-        "%c" | "%s" => Line::Words("there is no %c and no %s: characters stand in the format"),
-        _ if is_alone(conversion) => Line::Words("a % by itself is written %%"),
+        "%c" | "%s" => Line::Words("there is no %c or %s: put the characters in the format"),
+        _ if is_alone(conversion) => Line::Words("write %% for a percent sign"),
         _ => Line::Named("there is no conversion ", conversion),
     }
 }

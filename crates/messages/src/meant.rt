@@ -35,22 +35,22 @@ enum Class {
 type Row = ([Class; 4], &'static str);
 
 const ATTRIBUTES: &str =
-    "the attributes are transaction_safe, transaction_unsafe and transaction_callable of a function, and outer of a transaction";
+    "the attributes are transaction_safe, transaction_unsafe and transaction_callable (functions) and outer (transactions)";
 
 const VOID: &str =
-    "no variable is void: it stands before a function's name, or by itself where a function has no parameters";
+    "a variable can't be void: void is a function's return type, or its empty list of parameters";
 
-const LONG: &str = "long stands in long long alone, which is signed";
+const LONG: &str = "long is allowed only in long long, which is signed";
 
-const NO_POINTERS: &str = "there are no pointers: a function returns a value, or sets a global";
+const NO_POINTERS: &str = "there are no pointers: return a value, or set a global";
 
-const PARAMETER: &str = "a parameter has a type, int, unsigned or long long, as in int f(int a)";
+const PARAMETER: &str = "a parameter needs a type (int, unsigned or long long), as in int f(int a)";
 
 const COMPARISONS: &str = "the comparisons are <, >, <=, >=, == and !=";
 
-const ONE_LIST: &str = "an array has one dimension: its values stand in one list";
+const ONE_LIST: &str = "an array has one dimension: write its values in one list";
 
-const LENGTH: &str = "an array's length is a number";
+const LENGTH: &str = "an array's length must be a number";
 
 /// What is told of tokens by what stands before them: of the first row that fits.
 fn pairs() -> &'static [Row] {
@@ -73,26 +73,26 @@ fn pairs() -> &'static [Row] {
         ([Type, Name, Sign(Comma), Name], PARAMETER),
         (
             [Any, Name, Sign(OpenParen), Word(Void)],
-            "a call without arguments has empty brackets: f()",
+            "a call without arguments has empty parentheses: f()",
         ),
         (
             [Any, Any, Sign(OpenParen), Word(Void)],
-            "a cast is to int, unsigned or long long: a value that is not used wants none",
+            "a cast is to int, unsigned or long long: an unused value needs no cast",
         ),
         ([Any, Border, Name, Sign(Colon)], "there are no labels"),
         ([Any, Any, Word(Long), Name], "write long long"),
         ([Any, Any, Word(Long), Type], LONG),
         (
             [Any, Any, Name, Sign(OpenBracket)],
-            "arrays are global alone",
+            "arrays must be global",
         ),
         (
             [Any, Any, Number, Operator],
-            "a number alone stands here: write what it comes to",
+            "only a number is allowed here: write the result",
         ),
         (
             [Any, Any, Literal, Literal],
-            "two strings are not joined: write one",
+            "adjacent strings are not joined: write one string",
         ),
         (
             [Any, Any, Sign(Minus), Sign(Greater)],
@@ -100,7 +100,7 @@ fn pairs() -> &'static [Row] {
         ),
         (
             [Any, Any, Sign(Star), Sign(Star)],
-            "there are no pointers, and no operator for powers",
+            "there are no pointers, and no power operator",
         ),
         ([Any, Any, Sign(Assign), Sign(Less)], COMPARISONS),
         ([Any, Any, Sign(Assign), Sign(Greater)], COMPARISONS),
@@ -108,7 +108,7 @@ fn pairs() -> &'static [Row] {
         ([Any, Any, Sign(Less), Sign(Greater)], COMPARISONS),
         (
             [Any, Any, Sign(CloseBracket), Sign(OpenBracket)],
-            "an array has one dimension: a[6] in place of a[2][3], and a[i * 3 + j]",
+            "an array has one dimension: write a[6] for a[2][3], and a[i * 3 + j] for a[i][j]",
         ),
         ([Any, Any, Sign(OpenBracket), Sign(CloseBracket)], LENGTH),
         ([Any, Any, Sign(OpenBracket), Name], LENGTH),
@@ -124,11 +124,11 @@ fn alone() -> &'static [(Class, &'static str)] {
         (Class::Word(Keyword::Long), LONG),
         (
             Class::Literal,
-            "a string stands first in printf, and nowhere else",
+            "a string is allowed only as the first argument of printf",
         ),
         (
             Class::Word(Keyword::Printf),
-            "printf is a statement, and has no value",
+            "printf is a statement and has no value",
         ),
         (Class::Sign(Punctuator::And), NO_POINTERS),
         (Class::Sign(Punctuator::Star), NO_POINTERS),
@@ -138,11 +138,11 @@ fn alone() -> &'static [(Class, &'static str)] {
         ),
         (
             Class::Step,
-            "++ and -- are statements of their own, and have no value: write one before or behind",
+            "++ and -- are statements and have no value: write one before or after this statement",
         ),
         (
             Class::Assignment,
-            "an assignment is a statement, and has no value: == compares",
+            "an assignment is a statement and has no value: use == to compare",
         ),
     ];
     &ROWS
@@ -259,10 +259,10 @@ fn of_body(tokens: &[Token<'_>], number: usize) -> Option<&'static str> {
     match called_before(tokens, number)? {
         Kind::Name("elif" | "elseif" | "elsif") => Some("write else if"),
         Kind::Name(_) if open_bracket(tokens, number).is_none() => {
-            Some("a parameter has a type and a name, as in int f(int a) { .. }")
+            Some("a parameter needs a type and a name, as in int f(int a) { .. }")
         }
         Kind::Keyword(Keyword::Atomic) => Some(
-            "a transaction has no condition: write if in its block, or round it",
+            "a transaction has no condition: put an if inside its block, or around it",
         ),
         _ => None,
     }
@@ -294,7 +294,7 @@ fn of_untyped(tokens: &[Token<'_>], number: usize) -> Option<&'static str> {
     }
     let behind = behind_brackets(tokens, number.saturating_add(1))?;
     if is_punctuator(kind_at(tokens, behind), Punctuator::OpenBrace) {
-        Some("a function has its result's type in front, or void, as in int f(int a) { .. }")
+        Some("a function needs a return type, or void, in front, as in int f(int a) { .. }")
     } else {
         None
     }
@@ -379,17 +379,17 @@ pub(crate) fn of_token(text: &str, tokens: &[Token<'_>], number: usize) -> Optio
         return None;
     }
     if is_inner_function(tokens, number) {
-        return Some("a function stands in no other one: a } may be missing before it");
+        return Some("functions do not nest: a } may be missing before this one");
     }
     if assigns_twice(tokens, number) {
-        return Some("an assignment is a statement, and has no value: write one for each variable");
+        return Some("an assignment is a statement and has no value: write one for each variable");
     }
     if let Some(Kind::Reserved) = kind {
         let span = tokens.get(number)?.span;
         return Some(of_reserved(text.get(span.start..span.end).unwrap_or("")));
     }
     if is_scoped(tokens, number) {
-        return Some("there is no ::, and the only function of C's library is printf");
+        return Some("there is no ::, and printf is the only function of C's library");
     }
     let told = [
         of_body(tokens, number),

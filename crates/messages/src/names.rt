@@ -22,7 +22,7 @@ fn near_name<'t, A: Allocator + Copy>(
             let before = kind_before(tokens, number);
             let may_declare = is_type(before) || is_punctuator(before, Punctuator::Comma);
             if may_declare && is_near(alloc, unknown, name)? {
-                return Ok(Some(Line::Named("there is a name ", name)));
+                return Ok(Some(Line::Named("a similar name is ", name)));
             }
         }
     }
@@ -44,7 +44,7 @@ fn near<'t, A: Allocator + Copy>(
     Ok(match (near, of_beginning(tokens, kind)) {
         (Some(line), _) => line,
         (None, Some(words)) => Line::Words(words),
-        (None, None) => Line::Words("it is declared nowhere"),
+        (None, None) => Line::Words("it is not declared anywhere"),
     })
 }
 
@@ -52,12 +52,12 @@ fn near<'t, A: Allocator + Copy>(
 fn declared_elsewhere(tokens: &[Token<'_>], unknown: &str, number: usize) -> Option<Line<'static>> {
     if next_declaration(tokens, unknown, number).is_some() {
         return Some(Line::Words(
-            "it is declared further down: a name is declared before it is used",
+            "it is declared further down: a name must be declared before it is used",
         ));
     }
     let last = last_declaration(tokens, unknown, number)?;
     Some(Line::Placed(
-        "it is declared in a block that ends before this, at ",
+        "it is declared in a block that has ended, at ",
         offset_at(tokens, last),
     ))
 }
@@ -120,10 +120,10 @@ fn form_at(tokens: &[Token<'_>], number: usize) -> Form {
 /// What is told of a name that is declared as one thing, and used as another.
 fn of_forms(declared: Form, used: Form) -> Option<&'static str> {
     match (declared, used) {
-        (Form::Function, Form::Plain) => Some("it is a function: its name is no value"),
-        (Form::Function | Form::Plain, Form::Array) => Some("it is no array"),
-        (Form::Array | Form::Plain, Form::Function) => Some("it is no function"),
-        (Form::Array, _) => Some("it is an array: an index stands behind its name"),
+        (Form::Function, Form::Plain) => Some("it is a function: its name is not a value"),
+        (Form::Function | Form::Plain, Form::Array) => Some("it is not an array"),
+        (Form::Array | Form::Plain, Form::Function) => Some("it is not a function"),
+        (Form::Array, _) => Some("it is an array: write an index after its name"),
         _ => None,
     }
 }
@@ -131,7 +131,7 @@ fn of_forms(declared: Form, used: Form) -> Option<&'static str> {
 /// Tells of a name of a wrong type, the token of a number, what it is.
 fn of_typed_name(tokens: &[Token<'_>], name: &str, number: usize) -> Option<Line<'static>> {
     if is_type(kind_before(tokens, number)) {
-        let words = "it is declared with other types at ";
+        let words = "it is declared with different types at ";
         return of_declared(tokens, name, number, words);
     }
     let first = declared(tokens, name, number)?;
@@ -139,7 +139,7 @@ fn of_typed_name(tokens: &[Token<'_>], name: &str, number: usize) -> Option<Line
     match (of_forms(declared, used), kind_before(tokens, first)) {
         (Some(words), _) => Some(Line::Words(words)),
         (None, Some(Kind::Keyword(Keyword::Void))) => Some(Line::Words(
-            "it is a void function, and gives no value",
+            "it is a void function and returns no value",
         )),
         (None, _) => None,
     }
@@ -150,10 +150,10 @@ pub(crate) fn of_type(tokens: &[Token<'_>], number: usize) -> Option<Line<'stati
     let is_bare = is_punctuator(kind_behind(tokens, number), Punctuator::Semicolon);
     match kind_at(tokens, number)? {
         Kind::Keyword(Keyword::Return) if is_bare => Some(Line::Words(
-            "the function gives a value: it stands behind return",
+            "the function returns a value: write it after return",
         )),
         Kind::Keyword(Keyword::Return) => Some(Line::Words(
-            "a void function gives no value: return stands alone",
+            "a void function returns no value: write return;",
         )),
         Kind::Name(name) => of_typed_name(tokens, name, number),
         _ => None,
@@ -170,11 +170,11 @@ pub(crate) fn near_worker<A: Allocator + Copy>(
             let is_function = is_type(kind_before(tokens, number))
                 && is_punctuator(kind_behind(tokens, number), Punctuator::OpenParen);
             if is_function && name == "worker" {
-                let words = "worker has another type at ";
+                let words = "worker has a different type at ";
                 return Ok(Some(Line::Placed(words, token.span.start)));
             }
             if is_function && is_near(alloc, name, "worker")? {
-                let words = "worker may be meant at ";
+                let words = "worker may be misspelt at ";
                 return Ok(Some(Line::Placed(words, token.span.start)));
             }
         }
@@ -185,7 +185,7 @@ pub(crate) fn near_worker<A: Allocator + Copy>(
 /// What is told of a program without a worker.
 pub(crate) fn of_worker(tokens: &[Token<'_>]) -> &'static str {
     match next_declaration(tokens, "main", 0) {
-        Some(_) => "there is no main: thread T runs worker(T), written void worker(int self)",
-        None => "thread T runs worker(T), written void worker(int self)",
+        Some(_) => "there is no main: thread T runs worker(T), defined as void worker(int self)",
+        None => "thread T runs worker(T), defined as void worker(int self)",
     }
 }

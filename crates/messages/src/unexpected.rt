@@ -47,7 +47,7 @@ pub(crate) fn near_word<A: Allocator + Copy>(
     }
     'words: for word in written_words() {
         if is_near(alloc, name, word)? {
-            return Ok(Some(Line::Named("there is a word ", word)));
+            return Ok(Some(Line::Named("a similar keyword is ", word)));
         }
     }
     Ok(None)
@@ -127,9 +127,9 @@ fn missing_semicolon(text: &str, before: &[Token<'_>], offset: usize) -> Option<
 fn open_since(before: &[Token<'_>], expected: &[&str], is_end: bool) -> Option<Line<'static>> {
     let open = open_bracket(before, before.len())?;
     let (closing, words) = match kind_at(before, open)? {
-        Kind::Punctuator(Punctuator::OpenParen) => ("')'", "'(' is open since "),
-        Kind::Punctuator(Punctuator::OpenBracket) => ("']'", "'[' is open since "),
-        _ if is_end => ("'}'", "'{' is open since "),
+        Kind::Punctuator(Punctuator::OpenParen) => ("')'", "unclosed '(' at "),
+        Kind::Punctuator(Punctuator::OpenBracket) => ("']'", "unclosed '[' at "),
+        _ if is_end => ("'}'", "unclosed '{' at "),
         _ => return None,
     };
     if is_among(expected, closing) {

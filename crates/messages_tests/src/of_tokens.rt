@@ -37,42 +37,42 @@ fn rows() -> &'static [Row] {
         (
             "void worker(int self) {\n    if (self == 1 {\n    }\n}",
             "10 at 2:19",
-            "expected ')' or an operator\n'(' is open since 2:8\n",
+            "expected ')' or an operator\nunclosed '(' at 2:8\n",
         ),
         (
             "int a[4];\nvoid worker(int self) {\n    __transaction_atomic { a[0 = 1; }\n}",
             "10 at 3:32",
-            "expected ']' or an operator\n'[' is open since 3:29\n",
+            "expected ']' or an operator\nunclosed '[' at 3:29\n",
         ),
         (
             "void worker(int self) {\n    if (self) {\n        self = 1;\n}\n",
             "12 at 4:2",
-            "expected '}', 'else', a declaration or a statement\n'{' is open since 1:23\n",
+            "expected '}', 'else', a declaration or a statement\nunclosed '{' at 1:23\n",
         ),
         (
             "void worker(int self) {\n    self = (1 + 2;\n}",
             "10 at 2:18",
-            "expected ')' or an operator\n'(' is open since 2:12\n",
+            "expected ')' or an operator\nunclosed '(' at 2:12\n",
         ),
         (
             "int a[4;\nvoid worker(int self) { }",
             "10 at 1:8",
-            "expected ']'\n'[' is open since 1:6\n",
+            "expected ']'\nunclosed '[' at 1:6\n",
         ),
         (
             "int f(int a {\n    return a;\n}\nvoid worker(int self) { }",
             "10 at 1:13",
-            "expected ',' or ')'\n'(' is open since 1:6\n",
+            "expected ',' or ')'\nunclosed '(' at 1:6\n",
         ),
         (
             "void worker(int self) {\n    __transaction_atomic {\n    self = 1;\n}\nint g(void) { return 1; }\n",
             "10 at 5:6",
-            "a function stands in no other one: a } may be missing before it\nexpected ';', ',' or '='\n",
+            "functions do not nest: a } may be missing before this one\nexpected ';', ',' or '='\n",
         ),
         (
             "void worker(int self) {\n    printf(\"%d\\n\", self;\n}",
             "10 at 2:24",
-            "expected ',', ')', '(', '[' or an operator\n'(' is open since 2:11\n",
+            "expected ',', ')', '(', '[' or an operator\nunclosed '(' at 2:11\n",
         ),
         (
             "void worker(int self) { self = 1) ; }",
@@ -87,99 +87,99 @@ fn rows() -> &'static [Row] {
         (
             "void worker(int self) { int b = self++; }",
             "10 at 1:37",
-            "++ and -- are statements of their own, and have no value: write one before or behind\nexpected ';', ',', '(', '[' or an operator\n",
+            "++ and -- are statements and have no value: write one before or after this statement\nexpected ';', ',', '(', '[' or an operator\n",
         ),
         (
             "int a[4];\nvoid worker(int self) { int i = 0; __transaction_atomic { a[i++] = 1; } }",
             "10 at 2:62",
-            "++ and -- are statements of their own, and have no value: write one before or behind\nexpected ']', '(', '[' or an operator\n",
+            "++ and -- are statements and have no value: write one before or after this statement\nexpected ']', '(', '[' or an operator\n",
         ),
         (
             "void worker(int self) { if (++self == 2) { } }",
             "10 at 1:29",
-            "++ and -- are statements of their own, and have no value: write one before or behind\nexpected an expression\n",
+            "++ and -- are statements and have no value: write one before or after this statement\nexpected an expression\n",
         ),
         (
             "void worker(int self) { while (self--) { } }",
             "10 at 1:36",
-            "++ and -- are statements of their own, and have no value: write one before or behind\nexpected ')', '(', '[' or an operator\n",
+            "++ and -- are statements and have no value: write one before or after this statement\nexpected ')', '(', '[' or an operator\n",
         ),
         (
             "void worker(int self) { printf(\"%d\", self++); }",
             "10 at 1:42",
-            "++ and -- are statements of their own, and have no value: write one before or behind\nexpected ',', ')', '(', '[' or an operator\n",
+            "++ and -- are statements and have no value: write one before or after this statement\nexpected ',', ')', '(', '[' or an operator\n",
         ),
         (
             "int f(int a) { return a; }\nvoid worker(int self) { self = f(self++); }",
             "10 at 2:38",
-            "++ and -- are statements of their own, and have no value: write one before or behind\nexpected ',', ')', '(', '[' or an operator\n",
+            "++ and -- are statements and have no value: write one before or after this statement\nexpected ',', ')', '(', '[' or an operator\n",
         ),
         (
             "int f(int a) { return a++; }\nvoid worker(int self) { }",
             "10 at 1:24",
-            "++ and -- are statements of their own, and have no value: write one before or behind\nexpected ';', '(', '[' or an operator\n",
+            "++ and -- are statements and have no value: write one before or after this statement\nexpected ';', '(', '[' or an operator\n",
         ),
         (
             "void worker(int self) { int a = --self; }",
             "10 at 1:33",
-            "++ and -- are statements of their own, and have no value: write one before or behind\nexpected an expression\n",
+            "++ and -- are statements and have no value: write one before or after this statement\nexpected an expression\n",
         ),
         (
             "int a[2][3];",
             "10 at 1:9",
-            "an array has one dimension: a[6] in place of a[2][3], and a[i * 3 + j]\nexpected ';', ',' or '='\n",
+            "an array has one dimension: write a[6] for a[2][3], and a[i * 3 + j] for a[i][j]\nexpected ';', ',' or '='\n",
         ),
         (
             "int a[] = {1, 2};",
             "10 at 1:7",
-            "an array's length is a number\nexpected a number\n",
+            "an array's length must be a number\nexpected a number\n",
         ),
         (
             "int n;\nint a[n];",
             "10 at 2:7",
-            "an array's length is a number\nexpected a number\n",
+            "an array's length must be a number\nexpected a number\n",
         ),
         (
             "int x = 2 + 3;",
             "10 at 1:11",
-            "a number alone stands here: write what it comes to\nexpected ';' or ','\n",
+            "only a number is allowed here: write the result\nexpected ';' or ','\n",
         ),
         (
             "int x = 2 * 3;",
             "10 at 1:11",
-            "a number alone stands here: write what it comes to\nexpected ';' or ','\n",
+            "only a number is allowed here: write the result\nexpected ';' or ','\n",
         ),
         (
             "void worker(int self) { int a[4]; }",
             "10 at 1:30",
-            "arrays are global alone\nexpected ';', ',' or '='\n",
+            "arrays must be global\nexpected ';', ',' or '='\n",
         ),
         (
             "int a[N];",
             "10 at 1:7",
-            "an array's length is a number\nexpected a number\n",
+            "an array's length must be a number\nexpected a number\n",
         ),
         ("int x = -(3);", "10 at 1:10", "expected a number\n"),
         ("int y = x;", "10 at 1:9", "expected a number\n"),
         (
             "int a[2 * 4];",
             "10 at 1:9",
-            "a number alone stands here: write what it comes to\nexpected ']'\n",
+            "only a number is allowed here: write the result\nexpected ']'\n",
         ),
         (
             "int a[1 << 4];",
             "10 at 1:9",
-            "a number alone stands here: write what it comes to\nexpected ']'\n",
+            "only a number is allowed here: write the result\nexpected ']'\n",
         ),
         (
             "int a[4];\nvoid worker(int self) { __transaction_atomic { a[1][2] = 1; } }",
             "10 at 2:52",
-            "an array has one dimension: a[6] in place of a[2][3], and a[i * 3 + j]\nexpected ';', an assignment or an operator\n",
+            "an array has one dimension: write a[6] for a[2][3], and a[i * 3 + j] for a[i][j]\nexpected ';', an assignment or an operator\n",
         ),
         (
             "int a[4] = {0, 1,};",
             "28 at 1:20",
-            "thread T runs worker(T), written void worker(int self)\n",
+            "thread T runs worker(T), defined as void worker(int self)\n",
         ),
         ("int a[4] = {};", "10 at 1:13", "expected a number\n"),
     ];
@@ -192,27 +192,27 @@ fn more_rows() -> &'static [Row] {
         (
             "void worker(int self) { int a[] = {1}; }",
             "10 at 1:30",
-            "arrays are global alone\nexpected ';', ',' or '='\n",
+            "arrays must be global\nexpected ';', ',' or '='\n",
         ),
         (
             "int f(int a[]) { return 0; }",
             "10 at 1:12",
-            "arrays are global alone\nexpected ',' or ')'\n",
+            "arrays must be global\nexpected ',' or ')'\n",
         ),
         (
             "int f(int a[4]) { return 0; }",
             "10 at 1:12",
-            "arrays are global alone\nexpected ',' or ')'\n",
+            "arrays must be global\nexpected ',' or ')'\n",
         ),
         (
             "void worker(int self) { if (self = 1) { } }",
             "10 at 1:34",
-            "an assignment is a statement, and has no value: == compares\nexpected ')', '(', '[' or an operator\n",
+            "an assignment is a statement and has no value: use == to compare\nexpected ')', '(', '[' or an operator\n",
         ),
         (
             "void worker(int self) { int a, b; a = b = 1; }",
             "10 at 1:41",
-            "an assignment is a statement, and has no value: write one for each variable\nexpected ';', '(', '[' or an operator\n",
+            "an assignment is a statement and has no value: write one for each variable\nexpected ';', '(', '[' or an operator\n",
         ),
         (
             "void worker(int self) { int a = (1, 2); }",
@@ -227,27 +227,27 @@ fn more_rows() -> &'static [Row] {
         (
             "void worker(int self) { 1 = 2; }",
             "24 at 1:25",
-            "on the left of an assignment stands a variable or an element of an array\n",
+            "the left side of an assignment must be a variable or an element of an array\n",
         ),
         (
             "void worker(int self) { self + 1 = 2; }",
             "24 at 1:25",
-            "on the left of an assignment stands a variable or an element of an array\n",
+            "the left side of an assignment must be a variable or an element of an array\n",
         ),
         (
             "void worker(int self) { while ((self = 1) > 0) { } }",
             "10 at 1:38",
-            "an assignment is a statement, and has no value: == compares\nexpected ')', '(', '[' or an operator\n",
+            "an assignment is a statement and has no value: use == to compare\nexpected ')', '(', '[' or an operator\n",
         ),
         (
             "void worker(int self) { f() = 1; }",
             "20 at 1:25",
-            "it is declared nowhere\n",
+            "it is not declared anywhere\n",
         ),
         (
             "void worker(int self) { 5++; }",
             "24 at 1:25",
-            "on the left of an assignment stands a variable or an element of an array\n",
+            "the left side of an assignment must be a variable or an element of an array\n",
         ),
         (
             "void worker(int self) { self =< 2; }",
@@ -257,7 +257,7 @@ fn more_rows() -> &'static [Row] {
         (
             "void worker(int self) { (self) = 1; }",
             "24 at 1:25",
-            "on the left of an assignment stands a variable or an element of an array\n",
+            "the left side of an assignment must be a variable or an element of an array\n",
         ),
         (
             "void worker(int self) { self = self <> 1; }",
@@ -277,12 +277,12 @@ fn more_rows() -> &'static [Row] {
         (
             "void worker(int self) { if (self == 1) then { } }",
             "10 at 1:45",
-            "a statement follows the condition of if: there is no then\nexpected ';', '(', '[', an assignment or an operator\n",
+            "there is no then: a statement follows the condition of an if\nexpected ';', '(', '[', an assignment or an operator\n",
         ),
         (
             "void worker(int self) { if (self and 1) { } }",
             "10 at 1:34",
-            "the operators are &&, || and !\nexpected ')', '(', '[' or an operator\n",
+            "the logical operators are &&, || and !\nexpected ')', '(', '[' or an operator\n",
         ),
         (
             "void worker(int self) { elif (self) { } }",
@@ -302,7 +302,7 @@ fn more_rows() -> &'static [Row] {
         (
             "void worker(int self) { for (;;;) { } }",
             "10 at 1:32",
-            "expected ')' or an expression\n'(' is open since 1:29\n",
+            "expected ')' or an expression\nunclosed '(' at 1:29\n",
         ),
         (
             "void worker(int self) { for (int i = 0; i < 4, i++) { } }",
@@ -312,7 +312,7 @@ fn more_rows() -> &'static [Row] {
         (
             "void worker(int self) { for (i = 0; i < 4; i++) { } }",
             "20 at 1:30",
-            "it is declared nowhere\n",
+            "it is not declared anywhere\n",
         ),
         (
             "void worker(int self) { return 1 2; }",
@@ -327,7 +327,7 @@ fn more_rows() -> &'static [Row] {
         (
             "void worker(int self) { { self = 1;  }",
             "12 at 1:39",
-            "expected '}', a declaration or a statement\n'{' is open since 1:23\n",
+            "expected '}', a declaration or a statement\nunclosed '{' at 1:23\n",
         ),
         (
             "void worker(int self) { int if = 1; }",
@@ -337,12 +337,12 @@ fn more_rows() -> &'static [Row] {
         (
             "void worker(int self) { break; }",
             "26 at 1:25",
-            "a loop of the same function stands round it\n",
+            "it must be inside a loop of the same function\n",
         ),
         (
             "void worker(int self) { if (self) { continue; } }",
             "26 at 1:37",
-            "a loop of the same function stands round it\n",
+            "it must be inside a loop of the same function\n",
         ),
         (
             "void worker(int self) { do self = 1; while (0) self = 2; }",
@@ -352,12 +352,12 @@ fn more_rows() -> &'static [Row] {
         (
             "void worker(int self) { int i; for (i = 0; i < 3; i++ { } }",
             "10 at 1:55",
-            "expected ')'\n'(' is open since 1:36\n",
+            "expected ')'\nunclosed '(' at 1:36\n",
         ),
         (
             "void worker(int self) { int n = 0; if (++n == self) { } }",
             "10 at 1:40",
-            "++ and -- are statements of their own, and have no value: write one before or behind\nexpected an expression\n",
+            "++ and -- are statements and have no value: write one before or after this statement\nexpected an expression\n",
         ),
         (
             "void worker(int self) { int n\n    = self\n    printf(\"%d\", n); }",
@@ -372,12 +372,12 @@ fn more_rows() -> &'static [Row] {
         (
             "int a[4] = {{0, 1}, {2, 3}};",
             "10 at 1:13",
-            "an array has one dimension: its values stand in one list\nexpected a number\n",
+            "an array has one dimension: write its values in one list\nexpected a number\n",
         ),
         (
             "int a[4] = {0, {1, 2}};",
             "10 at 1:16",
-            "an array has one dimension: its values stand in one list\nexpected '}' or a number\n",
+            "an array has one dimension: write its values in one list\nexpected '}' or a number\n",
         ),
     ];
     &ROWS

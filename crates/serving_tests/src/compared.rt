@@ -310,7 +310,7 @@ fn refused_rows() -> &'static [Row] {
             (
                 1,
                 b"",
-                b"b.c:1:32: error: unknown name: it is declared nowhere [20]\n",
+                b"b.c:1:32: error: unknown name: it is not declared anywhere [20]\n",
             ),
         ),
         (REFINES, ADDS, b"\xff", (2, b"", b"txc: b.c is not UTF-8\n")),

@@ -31,7 +31,7 @@ fn rows() -> &'static [Row] {
             (
                 0,
                 b"accepted\n",
-                b"txc: warning stale-read at 1:66: another transaction writes by what is read here\n",
+                b"txc: warning stale-read at 1:66: a later transaction relies on this value, which another thread may have changed\n",
             ),
         ),
         (
@@ -41,7 +41,7 @@ fn rows() -> &'static [Row] {
             (
                 0,
                 b"accepted\n",
-                b"txc: warning stale-read at 1:66: another transaction writes by what is read here\nint x; void worker(int self) { int f; __transaction_atomic { f = x > 0; } if (f) { __transaction_atomic { x = x - 1; } } }\n                                                                 ^\nit is written at 1:107\nbetween the two another thread may change it: read it again where it is written, and try txc outcomes\n",
+                b"txc: warning stale-read at 1:66: a later transaction relies on this value, which another thread may have changed\nint x; void worker(int self) { int f; __transaction_atomic { f = x > 0; } if (f) { __transaction_atomic { x = x - 1; } } }\n                                                                 ^\nthe write is at 1:107\nread it again in the transaction that writes; txc outcomes shows what can go wrong\n",
             ),
         ),
         (
@@ -51,7 +51,7 @@ fn rows() -> &'static [Row] {
             (
                 0,
                 b"accepted\n",
-                b"txc: warning endless-wait at 1:62: no other thread can end this wait\nint x; void worker(int self) { __transaction_atomic { while (x == 0) ; } }\n                                                             ^^^^^^\na transaction sees no write of another thread: wait outside of it, as while (!__transaction_atomic (ready)) ;\n",
+                b"txc: warning endless-wait at 1:62: no other thread can end this wait\nint x; void worker(int self) { __transaction_atomic { while (x == 0) ; } }\n                                                             ^^^^^^\na transaction sees no write of another thread: wait outside it, as in while (!__transaction_atomic (ready)) ;\n",
             ),
         ),
         (
@@ -77,7 +77,7 @@ fn rows() -> &'static [Row] {
             (
                 0,
                 b"accepted\n",
-                b"{\"file\":\"a.c\",\"line\":1,\"column\":66,\"end_line\":1,\"end_column\":67,\"warning\":\"stale-read\",\"message\":\"another transaction writes by what is read here\",\"other_line\":1,\"other_column\":107,\"other_end_line\":1,\"other_end_column\":108,\"notes\":[\"it is written at 1:107\",\"between the two another thread may change it: read it again where it is written, and try txc outcomes\"]}\n",
+                b"{\"file\":\"a.c\",\"line\":1,\"column\":66,\"end_line\":1,\"end_column\":67,\"warning\":\"stale-read\",\"message\":\"a later transaction relies on this value, which another thread may have changed\",\"other_line\":1,\"other_column\":107,\"other_end_line\":1,\"other_end_column\":108,\"notes\":[\"the write is at 1:107\",\"read it again in the transaction that writes; txc outcomes shows what can go wrong\"]}\n",
             ),
         ),
         // other commands tell nothing
@@ -95,7 +95,7 @@ fn rows() -> &'static [Row] {
             (
                 0,
                 b"accepted\n",
-                b"txc: warning empty-if at 1:29: this if has nothing to do\ntxc: warning empty-if at 1:41: this if has nothing to do\ntxc: warning empty-if at 1:53: this if has nothing to do\ntxc: warning empty-if at 1:65: this if has nothing to do\ntxc: warning empty-if at 1:77: this if has nothing to do\ntxc: warning empty-if at 1:89: this if has nothing to do\ntxc: warning empty-if at 1:101: this if has nothing to do\ntxc: warning empty-if at 1:113: this if has nothing to do\ntxc: warning empty-if at 1:125: this if has nothing to do\ntxc: warning empty-if at 1:137: this if has nothing to do\ntxc: warning empty-if at 1:149: this if has nothing to do\ntxc: warning empty-if at 1:161: this if has nothing to do\ntxc: warning empty-if at 1:173: this if has nothing to do\ntxc: warning empty-if at 1:185: this if has nothing to do\ntxc: warning empty-if at 1:197: this if has nothing to do\ntxc: warning empty-if at 1:209: this if has nothing to do\ntxc: warning empty-if at 1:221: this if has nothing to do\ntxc: warning empty-if at 1:233: this if has nothing to do\ntxc: warning empty-if at 1:245: this if has nothing to do\ntxc: warning empty-if at 1:257: this if has nothing to do\ntxc: warnings: 20, and 2 more\n",
+                b"txc: warning empty-if at 1:29: this if does nothing\ntxc: warning empty-if at 1:41: this if does nothing\ntxc: warning empty-if at 1:53: this if does nothing\ntxc: warning empty-if at 1:65: this if does nothing\ntxc: warning empty-if at 1:77: this if does nothing\ntxc: warning empty-if at 1:89: this if does nothing\ntxc: warning empty-if at 1:101: this if does nothing\ntxc: warning empty-if at 1:113: this if does nothing\ntxc: warning empty-if at 1:125: this if does nothing\ntxc: warning empty-if at 1:137: this if does nothing\ntxc: warning empty-if at 1:149: this if does nothing\ntxc: warning empty-if at 1:161: this if does nothing\ntxc: warning empty-if at 1:173: this if does nothing\ntxc: warning empty-if at 1:185: this if does nothing\ntxc: warning empty-if at 1:197: this if does nothing\ntxc: warning empty-if at 1:209: this if does nothing\ntxc: warning empty-if at 1:221: this if does nothing\ntxc: warning empty-if at 1:233: this if does nothing\ntxc: warning empty-if at 1:245: this if does nothing\ntxc: warning empty-if at 1:257: this if does nothing\ntxc: warnings: 20, and 2 more\n",
             ),
         ),
         // faults behind the first one
@@ -112,7 +112,7 @@ fn rows() -> &'static [Row] {
             (
                 1,
                 b"",
-                b"txc: fault 20 at 1:32: unknown name\nint x; void worker(int self) { y = 1; x = 1; }\n                               ^\nit is declared nowhere\ntxc explain 20 says more\n",
+                b"txc: fault 20 at 1:32: unknown name\nint x; void worker(int self) { y = 1; x = 1; }\n                               ^\nit is not declared anywhere\ntxc explain 20 says more\n",
             ),
         ),
         (
@@ -132,7 +132,7 @@ fn rows() -> &'static [Row] {
             (
                 1,
                 b"",
-                b"txc: fault 20 at 1:32: unknown name\nint x; void worker(int self) { y = 1; x = 1; }\n                               ^\nit is declared nowhere\ntxc explain 20 says more\ntxc: fault 50 at 1:39: shared access outside a transaction\nint x; void worker(int self) { y = 1; x = 1; }\n                                      ^\nwrite __transaction_atomic { .. } round it, or __transaction_atomic ( .. ) round an expression\ntxc explain 50 says more\ntxc: faults: 2\n",
+                b"txc: fault 20 at 1:32: unknown name\nint x; void worker(int self) { y = 1; x = 1; }\n                               ^\nit is not declared anywhere\ntxc explain 20 says more\ntxc: fault 50 at 1:39: shared access outside a transaction\nint x; void worker(int self) { y = 1; x = 1; }\n                                      ^\nput it in __transaction_atomic { .. }, or an expression in __transaction_atomic ( .. )\ntxc explain 50 says more\ntxc: faults: 2\n",
             ),
         ),
         (
@@ -142,7 +142,7 @@ fn rows() -> &'static [Row] {
             (
                 1,
                 b"",
-                b"a.c:1:32: error: unknown name: it is declared nowhere [20]\n",
+                b"a.c:1:32: error: unknown name: it is not declared anywhere [20]\n",
             ),
         ),
         (
@@ -152,7 +152,7 @@ fn rows() -> &'static [Row] {
             (
                 1,
                 b"",
-                b"a.c:1:32: error: unknown name: it is declared nowhere [20]\na.c:1:39: error: shared access outside a transaction: write __transaction_atomic { .. } round it, or __transaction_atomic ( .. ) round an expression [50]\n",
+                b"a.c:1:32: error: unknown name: it is not declared anywhere [20]\na.c:1:39: error: shared access outside a transaction: put it in __transaction_atomic { .. }, or an expression in __transaction_atomic ( .. ) [50]\n",
             ),
         ),
         (
@@ -162,7 +162,7 @@ fn rows() -> &'static [Row] {
             (
                 1,
                 b"",
-                b"txc: fault 20 at 1:32: unknown name\nint x; void worker(int self) { y = 1; x = 1; }\n                               ^\nit is declared nowhere\ntxc explain 20 says more\n",
+                b"txc: fault 20 at 1:32: unknown name\nint x; void worker(int self) { y = 1; x = 1; }\n                               ^\nit is not declared anywhere\ntxc explain 20 says more\n",
             ),
         ),
         (

@@ -182,7 +182,7 @@ fn rows() -> &'static [Row] {
             (
                 1,
                 b"",
-                b"txc: fault 28 at 1:7: no worker\nint x;\n      ^\nthread T runs worker(T), written void worker(int self)\ntxc explain 28 says more\n",
+                b"txc: fault 28 at 1:7: no worker\nint x;\n      ^\nthread T runs worker(T), defined as void worker(int self)\ntxc explain 28 says more\n",
             ),
         ),
         (
@@ -227,7 +227,7 @@ fn rows() -> &'static [Row] {
             (
                 1,
                 b"",
-                b"txc: fault 28 at 1:7: no worker\nint x;\n      ^\nthread T runs worker(T), written void worker(int self)\ntxc explain 28 says more\ntxc: that is of s.txt\n",
+                b"txc: fault 28 at 1:7: no worker\nint x;\n      ^\nthread T runs worker(T), defined as void worker(int self)\ntxc explain 28 says more\ntxc: that is of s.txt\n",
             ),
         ),
     ];

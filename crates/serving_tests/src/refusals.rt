@@ -332,7 +332,7 @@ fn what_has_no_code_is_told(rt: HostRuntime) {
 /// What is told on a terminal of a source.
 const UNDERLINED: (&str, &str) = (
     "void worker(int self) { __transaction_atomic { zoo = 1; } }",
-    "txc: fault 20 at 1:48: unknown name\nvoid worker(int self) { __transaction_atomic { zoo = 1; } }\n                                               ^^^\nit is declared nowhere\ntxc explain 20 says more\n",
+    "txc: fault 20 at 1:48: unknown name\nvoid worker(int self) { __transaction_atomic { zoo = 1; } }\n                                               ^^^\nit is not declared anywhere\ntxc explain 20 says more\n",
 );
 
 #[test]
@@ -361,7 +361,7 @@ fn explains_faults(rt: HostRuntime) {
     assert!(rt; explains(&rt, rt.alloc(), "txc explain trap 3", begins));
     let begins = b"trap 1: a signed result out of range\nWhen: ";
     assert!(rt; explains(&rt, rt.alloc(), "txc explain trap", begins));
-    let begins = b"waits: a transaction is to come\nWhen: ";
+    let begins = b"waits: the thread is about to begin a transaction\nWhen: ";
     assert!(rt; explains(&rt, rt.alloc(), "txc explain waits", begins));
     let told = b"txc: usage: no fault has this number, and no thread this end\n".as_slice();
     let unknown = (2, b"".as_slice(), told);
