@@ -1,26 +1,23 @@
 #!/usr/bin/env python3
-"""Measures what the gate costs, crate by crate, and keeps the table of docs/GATE.md.
+"""Measures what the gate costs, crate by crate, and writes the table of CONTRIBUTING.md.
 
-  scripts/gate_cost.py --gate [CRATE..]         runs the gate once (.ci/run, or `rt ci` of these crates and those below
-                                                them where some are named), passes on what it prints, and adds a line
-                                                for each crate that it proved, or all of whose wrong bodies it tried, to
-                                                docs/gate_cost.csv
-  scripts/gate_cost.py CRATE..                  measures crates one after another in copies, and adds a line for each
-  scripts/gate_cost.py --part check CRATE..     one part alone: check, tests or wrong (wrong bodies)
-  scripts/gate_cost.py --table                  prints the table, from the least measurement of each part of each crate,
-                                                of the files as they are
-  scripts/gate_cost.py --write                  puts the table into docs/GATE.md
+  scripts/gate_cost.py --gate [CRATE..]         runs the gate once (.ci/run, or `rt ci` of the given crates and those below),
+                                                passes on its output, and appends to docs/gate_cost.csv a line for each
+                                                crate that was proved or had all its mutants tried
+  scripts/gate_cost.py CRATE..                  measures crates one after another in copies, and appends a line for each
+  scripts/gate_cost.py --part check CRATE..     measures one part alone: check, tests or wrong (mutants)
+  scripts/gate_cost.py --table                  prints the table: for each part of each crate the least measurement of the
+                                                current files
+  scripts/gate_cost.py --write                  writes the table into CONTRIBUTING.md
 
-With --gate each process of the run is looked at five times a second, with all that it started, and counted to the crate
-and the part that it works for; what it takes after the last look is in the sum alone, which the system gives at the
-end. A run that fails adds no line. How fast the processor is meanwhile is told by a fixed loop, made anew each ten
-seconds: what it took at the median and at best.
-A crate that is measured alone is proved from nothing in a copy; the crates below it are taken as they are in their out/
-folders (those that have none are proved first, outside of the measurement), with their proofs, where the gate reads
-their statements alone. Its sources end in one line more there, since a check begins with what others on the machine
-keep of the same files.
-Seconds are of processor, over all processes; memory is the most that any one process held. --jobs N is how many jobs a
-check gets (2). What its checks say stands in out/gate_cost_CRATE.log.
+--gate samples the processes of the run five times a second and counts each, with all it started, to the crate and part it
+works for. Time after the last sample is only in the total, which the system reports at the end. A run that fails appends
+nothing. A fixed loop, run every ten seconds, measures the processor's speed: its median and best time are printed.
+A crate measured alone is proved from nothing in a copy. The crates below are taken from their out/ folders (and proved
+first, unmeasured, if they have none) with their proofs, whereas the gate reads only their statements. Each source gets one
+more line in the copy, because a check otherwise reuses work on the same files kept elsewhere on the machine.
+Seconds are of processor, over all processes; memory is the peak of any one process. --jobs N is the number of jobs of a
+check [default: 2]. The output of its checks is in out/gate_cost_CRATE.log.
 """
 
 import csv
@@ -37,7 +34,7 @@ import time
 from lib.words import TOP, reader
 
 CSV = f"{TOP}/docs/gate_cost.csv"
-PAGE = f"{TOP}/docs/GATE.md"
+PAGE = f"{TOP}/CONTRIBUTING.md"
 FIELDS = ["crate", "commit", "date", "check_s", "tests_s", "wrong_bodies", "wrong_s", "peak_mb"]
 BEGIN, END = "<!-- measured: begin -->\n", "<!-- measured: end -->\n"
 
@@ -333,22 +330,22 @@ def table():
         "not measured" if field not in row else f"{int(row[field]):,}" if int(row[field]) else "–"
     )
     lines = [
-        "| Crate | Check, s | Tests, s | Wrong bodies | Their s | Peak of one process, GB | Last measured at |",
-        "|---|---|---|---|---|---|---|",
+        "| Crate | Check, s | Tests, s | Mutants | Mutants, s | Peak of one process, GB |",
+        "|---|---|---|---|---|---|",
     ]
     crates = [it for it in libraries()]
     for crate in sorted((it for it in peaks if it in crates), key=lambda it: -whole(last[it])):
         row, peak = last[crate], max(peaks[crate].values()) / 1024
         lines.append(
             f"| `{crate}` | {shown(row, 'check_s')} | {shown(row, 'tests_s')} | {shown(row, 'wrong_bodies')}"
-            f" | {shown(row, 'wrong_s')} | {f'{peak:.1f}' if peak else 'not measured'} | {row['commit']} |"
+            f" | {shown(row, 'wrong_s')} | {f'{peak:.1f}' if peak else 'not measured'} |"
         )
     rows = [last[it] for it in crates if it in last]
     sums = [sum(number(row, field) for row in rows) for field in ("check_s", "tests_s", "wrong_bodies", "wrong_s")]
     minutes = (sums[0] + sums[1] + sums[3]) / 60
     most = max([max(peaks[it].values()) for it in crates if it in peaks] or [0]) / 1024
     lines.append(
-        f"| all measured: {minutes:.0f} min | {sums[0]:,} | {sums[1]:,} | {sums[2]} | {sums[3]:,} | {most:.1f} | |"
+        f"| all: {minutes:.0f} min | {sums[0]:,} | {sums[1]:,} | {sums[2]} | {sums[3]:,} | {most:.1f} |"
     )
     missing = [it for it in crates if it not in peaks]
     if missing:
@@ -360,7 +357,7 @@ def write():
     with open(PAGE, encoding="utf-8") as file:
         page = file.read()
     if BEGIN not in page or END not in page:
-        sys.exit("docs/GATE.md has no place for the table")
+        sys.exit("CONTRIBUTING.md has no place for the table")
     page = page[: page.index(BEGIN)] + BEGIN + "\n" + table() + "\n" + page[page.index(END) :]
     with open(PAGE, "w", encoding="utf-8") as file:
         file.write(page)
