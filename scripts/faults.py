@@ -1,18 +1,17 @@
 #!/usr/bin/env python3
-"""Compares docs/ERRORS.md with the tests that run its examples, with the table of words and
-with what `txc explain` prints, and the table of warnings in docs/COMMANDS.md likewise.
+"""Compares docs/ERRORS.md with the tests that run its examples, with the table of words and with the output of
+`txc explain`, and the table of warnings in docs/COMMANDS.md likewise.
 
-  scripts/faults.py           fails where they differ
-  scripts/faults.py --write   writes crates/messages/src/explanations.rt, which is what `txc explain` prints,
-                              from the page
+  scripts/faults.py           fails if they differ
+  scripts/faults.py --write   writes crates/messages/src/explanations.rt, the output of `txc explain`, from the page
 
-Each example of the page's first table has to stand in crates/serving_tests/src/refusals.rt, with the same number, place
-and words, in TOLD or LONG, and what the page shows of where a thread stands in src/places/ beside it; each number of
-the page has the words of crates/messages/src/table.rt, and so has each variant of a type of faults (`#[error("..")]`)
-for its number; one of a type without numbers has the words of some number.
-Each warning of crates/warnings/src/warning.rt has a row in docs/COMMANDS.md, with its words in crates/messages/src/warnings.rt,
-and an example that crates/front_end_tests/src/of_warnings/rows.rt runs, with its place.
-Prints what differs, and ends in status 1 where something does.
+Each example of the page's first table must be in crates/serving_tests/src/refusals.rt, with the same number, place and
+words, in TOLD or LONG, and the page's report of a thread's place in src/places/ of the same crate. Each number of the page
+has its words in crates/messages/src/table.rt, and each variant of a fault type (`#[error("..")]`) the words of its number,
+or, in a type without numbers, the words of some number.
+Each warning of crates/warnings/src/warning.rt has a row in docs/COMMANDS.md, its words in crates/messages/src/warnings.rt,
+and an example, with its place, that crates/front_end_tests/src/of_warnings/rows.rt runs.
+Prints the differences, and ends with status 1 if there is one.
 """
 
 import glob
@@ -33,12 +32,12 @@ def read(path):
 
 
 def plain(text):
-    """What a Rust string literal stands for."""
+    """The value of a Rust string literal."""
     return text.replace("\\\\", "\0").replace('\\"', '"').replace("\\n", "\n").replace("\0", "\\")
 
 
 def tested(code, name):
-    """The rows of a table of the tests: source, number, what is told behind the number."""
+    """The rows of a table of the tests: source, number, place and words."""
     found = re.search(rf"static {name}: .*?= \[(.*?)\];\n", code, re.S)
     if not found:
         return []
@@ -53,7 +52,7 @@ def tested(code, name):
 
 
 def example(cell):
-    """The source of an example: pieces between back quotes, each with `N times` before it where it is repeated."""
+    """The source of an example: pieces between back quotes, each with `N times` before it if it is repeated."""
     pieces = re.findall(r"(?:(\d+) times )?`([^`]*)`", cell)
     return "".join(text * int(times or 1) for times, text in pieces).replace("W{", WORKER)
 
@@ -83,18 +82,18 @@ def cells_of(page):
 
 
 def shown(cell):
-    """An example as it is told: a source alone, or else the cell's words."""
+    """An example as `txc explain` prints it: a source alone, or else the cell's words."""
     source = re.fullmatch(r"`([^`]*)`", cell)
     return (source[1] if source else cell).replace("W{", WORKER)
 
 
 def writes(page):
-    """What is written in place of each fault, by its number."""
+    """The fix of each fault, by its number."""
     return dict(re.findall(r"^\| fault (\d\d) \| (.*) \|$", page, re.M))
 
 
 def explanation(cells, instead):
-    """What `txc explain` prints of a fault."""
+    """The output of `txc explain` for a fault."""
     number, words, when, *rest = cells
     if len(rest) == 3:
         place, example, at = rest
@@ -110,7 +109,7 @@ def literal(text):
 
 
 def ends_of(page):
-    """The rows of the table of threads' ends: the word, the number of a trap or nothing, and what is printed."""
+    """The rows of the table of threads' ends: the word, the number of a trap or nothing, and the output."""
     rows = []
     for line in re.split(r"^## ", page, flags=re.M):
         if line.startswith("How a thread ends"):
@@ -123,7 +122,7 @@ def ends_of(page):
 
 
 def arms_of(rows):
-    """Arms that give texts, by what they are for."""
+    """Arms that return texts."""
     return "".join(f"        {case} => Some(\n            {literal(text)},\n        ),\n" for case, text in rows)
 
 
@@ -134,32 +133,32 @@ def explanations(page):
     traps = [(number, text) for _, number, text in ends if number]
     others = [("\"trap\"", "".join(text for _, text in traps))]
     others += [(f'"{word}"', text) for word, number, text in ends if not number]
-    return f"""//! What each fault means, as docs/ERRORS.md says it: written by scripts/faults.py.
+    return f"""//! The explanation of each fault and of each end of a thread: written by scripts/faults.py from docs/ERRORS.md.
 
-/// What a fault means, when it comes, with its place and an example: lines that end with LF. `None` where no fault has
-/// the number.
+/// The explanation of a fault: when it is reported, its place, an example and a fix, in lines that end with LF. `None`
+/// if no fault has the number.
 pub fn explanation(number: u32) -> Option<&'static str> {{
     match number {{
 {arms_of(rows)}        _ => None,
     }}
 }}
 
-/// What the trap of a number is, in the same form.
+/// The explanation of a trap, in the same form.
 fn trap_explanation(number: u32) -> Option<&'static str> {{
     match number {{
 {arms_of(traps)}        _ => None,
     }}
 }}
 
-/// What the end is that a report has by a word.
+/// The explanation of an end of a thread, by its word in a report.
 fn word_explanation(word: &str) -> Option<&'static str> {{
     match word {{
 {arms_of(others)}        _ => None,
     }}
 }}
 
-/// What it means that a thread is found so, by its word in a report, and for a trap by the number behind it; all traps
-/// without one. Lines that end with LF. `None` where no thread is found so.
+/// The explanation of an end of a thread, by its word in a report and, for a trap, by its number; without a number, of
+/// all traps. Lines that end with LF. `None` if there is no such end.
 pub fn end_explanation(word: &str, number: Option<u32>) -> Option<&'static str> {{
     match number {{
         None => word_explanation(word),
@@ -176,7 +175,7 @@ pub fn end_explanation(word: &str, number: Option<u32>) -> Option<&'static str> 
 
 
 def said_otherwise(words):
-    """The variants of types of faults whose words are not those of their number."""
+    """The variants of fault types whose words are not those of their number."""
     wrong = []
     for path in sorted(glob.glob("crates/*/src/**/*.rt", root_dir=TOP, recursive=True)):
         code = read(path)
@@ -186,12 +185,12 @@ def said_otherwise(words):
                 name = f"{kind}::{variant}"
                 wanted = [words.get(numbers[name])] if name in numbers else list(words.values())
                 if "{" not in text and text not in wanted:
-                    wrong.append(f"{path}: `{name}` says {text!r}, which are not the words of its number")
+                    wrong.append(f"{path}: `{name}` has the words {text!r}, which are not those of its number")
     return wrong
 
 
 def wrong_warnings():
-    """What docs/COMMANDS.md says of warnings that the program or its tests do not."""
+    """Differences between the warnings of docs/COMMANDS.md, the program and its tests."""
     names = re.findall(rf"=> {TEXT}", read("crates/warnings/src/warning.rt"))
     words = dict(re.findall(rf"{TEXT} => \(\s*{TEXT}", read("crates/messages/src/warnings.rt")))
     rows = re.findall(rf"\(\s*{TEXT},\s*{TEXT},?\s*\)", read("crates/front_end_tests/src/of_warnings/rows.rt"))
@@ -201,7 +200,7 @@ def wrong_warnings():
         name, said, source, at = row
         shown.append(name)
         if words.get(name) != said:
-            wrong.append(f"{name}: docs/COMMANDS.md says {said!r}, the program {words.get(name)!r}")
+            wrong.append(f"{name}: docs/COMMANDS.md has {said!r}, the program {words.get(name)!r}")
         if (example(source.replace("\\|", "|")), f"{name} {at}") not in told:
             wrong.append(f"no test has the example of {name} at {at} that docs/COMMANDS.md shows")
     if shown != names or names != list(words):
@@ -223,7 +222,7 @@ def main():
     words = {int(number): text for number, text in re.findall(rf"(\d+) => {TEXT}", read("crates/messages/src/table.rt"))}
     shown = {int(number): text for number, text in re.findall(r"^\| (\d\d) \| ([^|]*?) \|", page, re.M)}
     wrong += [
-        f"{number:02}: the page says {shown.get(number)!r}, the program {words.get(number)!r}"
+        f"{number:02}: the page has {shown.get(number)!r}, the program {words.get(number)!r}"
         for number in sorted({*words, *shown})
         if words.get(number) != shown.get(number)
     ]
@@ -231,22 +230,22 @@ def main():
     wrong += wrong_warnings()
     underlined = re.search(rf"const UNDERLINED: .*?= \(\s*{TEXT},\s*{TEXT},\s*\);", code, re.S)
     if not underlined or f"```\n{plain(underlined[2])}```" not in page:
-        wrong.append("the page does not show what the test has of a source's line and its carets")
+        wrong.append("the page lacks the test's source line with carets")
     ends = "".join(read(it) for it in glob.glob("crates/serving_tests/src/places/*.rt", root_dir=TOP))
     wrong += [
-        f"no test has what the page shows of a thread: {told.splitlines()[0]}"
+        f"no test has the page's report of a thread: {told.splitlines()[0]}"
         for told in re.findall(r"^```\n(txc: thread .*?)```$", page, re.M | re.S)
         if literal(told) not in ends
     ]
     instead = writes(page)
     lacking = [cells[0] for cells in cells_of(page) if len(cells) == 6 and cells[0] not in instead]
-    wrong += [f"the page does not say what is written in place of {number}" for number in lacking]
+    wrong += [f"the page has no fix for {number}" for number in lacking]
     explained = explanation(next(cells for cells in cells_of(page) if cells[0] == "20"), instead)
     if f"```\n$ txc explain 20\n{explained}```" not in read("docs/COMMANDS.md"):
-        wrong.append("docs/COMMANDS.md does not show what `txc explain 20` prints")
+        wrong.append("docs/COMMANDS.md does not show the output of `txc explain 20`")
     if read(EXPLANATIONS) != explanations(page):
-        wrong.append(f"{EXPLANATIONS} is not what this script writes from the page")
-    print("\n".join(wrong) or f"ERRORS.md: {len(shown)} numbers, as the tests and the program have them")
+        wrong.append(f"{EXPLANATIONS} differs from the page: run --write")
+    print("\n".join(wrong) or f"ERRORS.md: {len(shown)} numbers agree with the tests and the program")
     return 1 if wrong else 0
 
 

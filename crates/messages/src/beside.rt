@@ -1,4 +1,4 @@
-//! The lines that are told beside a fault.
+//! Hints: the lines printed after a fault.
 
 use crate::calls::{Aim, push_path};
 use crate::characters::{of_character, of_string};
@@ -11,7 +11,7 @@ use lex::token::{Kind, Span, Token};
 use lex::{LexFault, lex};
 use std::alloc::{AllocError, Allocator};
 
-/// What is told beside a fault of this number, whatever stands at its place.
+/// The hint for a fault of this number, whatever is at its place.
 fn of_number(number: u32) -> Option<&'static str> {
     match number {
         2 => Some("the largest constant is 9223372036854775807, or 4294967295 with the suffix u"),
@@ -48,7 +48,7 @@ fn of_number(number: u32) -> Option<&'static str> {
     }
 }
 
-/// What is told of a word that may not stand in an atomic transaction.
+/// The hint for a word that is not allowed in an atomic transaction.
 fn of_unsafe(word: &str) -> &'static str {
     if word == "printf" {
         "a print can't be undone: move it after the transaction, or use __transaction_relaxed"
@@ -57,7 +57,7 @@ fn of_unsafe(word: &str) -> &'static str {
     }
 }
 
-/// What is told of a fault by its number and by the text from its place on.
+/// The hint for a fault, by its number and the text from its place on.
 fn of_text(text: &str, number: u32, span: Span) -> Option<&'static str> {
     match number {
         1 => of_character(text.as_bytes(), span.start),
@@ -67,7 +67,7 @@ fn of_text(text: &str, number: u32, span: Span) -> Option<&'static str> {
     }
 }
 
-/// What is told of a fault whose place begins with the token of a number.
+/// The hint for a fault whose place begins with the token at an index.
 fn of_token<'t, A: Allocator + Copy>(
     alloc: A,
     tokens: &[Token<'t>],
@@ -87,7 +87,7 @@ fn of_token<'t, A: Allocator + Copy>(
     })
 }
 
-/// What is told of a fault by its tokens.
+/// The hint for a fault, by its tokens.
 fn line_of<'t, A: Allocator + Copy>(
     alloc: A,
     tokens: &[Token<'t>],
@@ -101,7 +101,7 @@ fn line_of<'t, A: Allocator + Copy>(
     }
 }
 
-/// What is told of a fault by its tokens behind that.
+/// The second hint for a fault, by its tokens.
 fn second_line_of(tokens: &[Token<'_>], fault: u32, span: Span) -> Option<Line<'static>> {
     match fault {
         23 => {
@@ -114,7 +114,7 @@ fn second_line_of(tokens: &[Token<'_>], fault: u32, span: Span) -> Option<Line<'
     }
 }
 
-/// What is looked for behind the calls of the function that a fault of safety or of separation names.
+/// What to search for along the calls of the function that a fault of safety or separation names.
 fn aim_of(fault: u32) -> Option<Aim> {
     match fault {
         40 | 43 => Some(Aim::Unsafe),
@@ -131,7 +131,7 @@ fn name_at<'t>(tokens: &[Token<'t>], offset: usize) -> Option<&'t str> {
     }
 }
 
-/// Adds what is told of a fault by its tokens, and gives whether that is all.
+/// Adds the hints for a fault that come from its tokens, and returns whether they are all.
 fn push_of_tokens<A: Allocator + Copy>(
     alloc: A,
     to: &mut String<A>,
@@ -155,7 +155,7 @@ fn push_of_tokens<A: Allocator + Copy>(
     Ok(false)
 }
 
-/// Adds what is told of a fault by the tokens of its text, where that has some, and gives whether that is all.
+/// Adds the hints for a fault that come from the tokens of its text, if it has any, and returns whether they are all.
 fn push_of_source<A: Allocator + Copy>(
     alloc: A,
     to: &mut String<A>,
@@ -170,7 +170,7 @@ fn push_of_source<A: Allocator + Copy>(
     }
 }
 
-/// Adds what is told beside a fault.
+/// Adds the hints for a fault.
 fn push_hints<A: Allocator + Copy>(
     alloc: A,
     to: &mut String<A>,
@@ -187,7 +187,7 @@ fn push_hints<A: Allocator + Copy>(
     }
 }
 
-/// The lines that are told beside the fault of a number at a place of a text: what could stand there, and what is
+/// The hints for the fault of a number at a place of a text: what could be there, and what was probably
 /// meant. Each ends with LF.
 pub fn hints<A: Allocator + Copy>(
     alloc: A,

@@ -1,4 +1,4 @@
-//! By which calls a function comes to what is not safe, or to shared data.
+//! By which calls a function reaches something unsafe, or shared data.
 
 use crate::lines::push_place;
 use crate::tokens::{
@@ -8,20 +8,20 @@ use crate::tokens::{
 use lex::token::{Keyword, Kind, Punctuator, Token};
 use std::alloc::{AllocError, Allocator};
 
-/// The most functions that are looked at.
+/// The most functions that are searched.
 const MOST_FUNCTIONS: usize = 64;
 
-/// The most bytes of a source in which it is looked for calls.
+/// The most bytes of a source that is searched for calls.
 const MOST_BYTES: usize = 32768;
 
-/// What is looked for in functions.
+/// What to search for in functions.
 #[derive(Clone, Copy, PartialEq, Eq)]
 pub(crate) enum Aim {
     Unsafe,
     Shared,
 }
 
-/// A function that is looked at, with the token that calls it and the number of its caller among those looked at.
+/// A function to search, with the token that calls it and the index of its caller in the list of these functions.
 #[derive(Clone, Copy)]
 struct Called<'t> {
     name: &'t str,
@@ -29,7 +29,7 @@ struct Called<'t> {
     caller: usize,
 }
 
-/// What is found in a function: words, a name that belongs to them, and the token where it stands.
+/// What is found in a function: words, a name that belongs to them, and its token.
 #[derive(Clone, Copy)]
 struct Reason<'t> {
     words: &'static str,
@@ -50,7 +50,7 @@ fn body_brace(tokens: &[Token<'_>], parameters: usize) -> Option<usize> {
     None
 }
 
-/// The number of the first token of a function, its name, and of the one behind its body.
+/// The index of the first token of a function, its name, and of the one after its body.
 fn function(tokens: &[Token<'_>], name: &str) -> Option<(usize, usize)> {
     let mut from = 0usize;
     'declarations: for _ in 0..tokens.len() {
@@ -98,7 +98,7 @@ fn is_shared(tokens: &[Token<'_>], name: &str, number: usize) -> bool {
     }
 }
 
-/// The number of the token behind a transaction, whose word is the token of a number.
+/// The index of the token after a transaction, whose keyword is the token at an index.
 fn behind_transaction(tokens: &[Token<'_>], word: usize) -> Option<usize> {
     let next = word.saturating_add(1);
     let body = match kind_at(tokens, next)? {
@@ -134,7 +134,7 @@ fn reason_at<'t>(tokens: &[Token<'t>], aim: Aim, number: usize) -> Option<Reason
     }
 }
 
-/// Whether a function is among those looked at.
+/// Whether a function is in the list of functions to search.
 fn is_looked_at(looked: &[Called<'_>], name: &str) -> bool {
     'looked: for called in looked {
         if called.name == name {
@@ -144,7 +144,7 @@ fn is_looked_at(looked: &[Called<'_>], name: &str) -> bool {
     false
 }
 
-/// Adds the function that the token of a number calls to those looked at.
+/// Adds the function that a token calls to the functions to search.
 fn add_call<'t, A: Allocator>(
     tokens: &[Token<'t>],
     looked: &mut Vec<Called<'t>, A>,
@@ -169,8 +169,8 @@ fn begins_transaction(kind: Kind<'_>) -> bool {
     matches!(kind, Kind::Keyword(Keyword::Atomic | Keyword::Relaxed))
 }
 
-/// Looks at the tokens from one up to another: gives what is found there, or else adds the functions that are called to
-/// those looked at.
+/// Searches the tokens from one up to another: returns what it finds, or adds the called functions to those
+/// to search.
 fn look_between<'t, A: Allocator>(
     tokens: &[Token<'t>],
     aim: Aim,
@@ -197,7 +197,7 @@ fn look_between<'t, A: Allocator>(
     Ok(None)
 }
 
-/// Looks into a function: gives what is found there, or else adds the functions that it calls to those looked at.
+/// Searches a function: returns what it finds, or adds the functions that it calls to those to search.
 fn look_into<'t, A: Allocator>(
     tokens: &[Token<'t>],
     aim: Aim,
@@ -221,7 +221,7 @@ fn look_into<'t, A: Allocator>(
     }
 }
 
-/// Adds the place of the token of a number, behind `at`.
+/// Adds ` at ` and the place of a token.
 fn push_at<A: Allocator + Copy>(
     alloc: A,
     to: &mut String<A>,
@@ -233,7 +233,7 @@ fn push_at<A: Allocator + Copy>(
     push_place(alloc, to, text, offset_at(tokens, number))
 }
 
-/// Adds the call of a function, behind its caller.
+/// Adds the call of a function, after its caller.
 fn push_call<A: Allocator + Copy>(
     alloc: A,
     to: &mut String<A>,
@@ -256,7 +256,7 @@ fn caller_up(looked: &[Called<'_>], last: usize, by: usize) -> usize {
     at
 }
 
-/// By how many calls the first of these functions comes to the one of a number.
+/// By how many calls the first of these functions reaches the one at an index.
 fn depth(looked: &[Called<'_>], last: usize) -> usize {
     'callers: for by in 0..MOST_FUNCTIONS {
         if caller_up(looked, last, by) == 0 {
@@ -266,7 +266,7 @@ fn depth(looked: &[Called<'_>], last: usize) -> usize {
     MOST_FUNCTIONS
 }
 
-/// Adds by which calls the first of these functions comes to the last one.
+/// Adds the calls by which the first of these functions reaches the last one.
 fn push_calls<A: Allocator + Copy>(
     alloc: A,
     to: &mut String<A>,
@@ -300,7 +300,7 @@ fn push_reason<A: Allocator + Copy>(
     to.push('\n')
 }
 
-/// Looks into functions, and into those that they call, until something is found, in the one of a number.
+/// Searches functions, and those that they call, and returns the first find with its function's index.
 fn look<'t, A: Allocator>(
     tokens: &[Token<'t>],
     aim: Aim,
@@ -317,7 +317,7 @@ fn look<'t, A: Allocator>(
     Ok(None)
 }
 
-/// Adds by which calls a function comes to what is looked for, if that is found, and gives whether it is.
+/// Adds the calls by which a function reaches what is searched for, and returns whether it was found.
 pub(crate) fn push_path<'t, A: Allocator + Copy>(
     alloc: A,
     to: &mut String<A>,

@@ -1,4 +1,4 @@
-//! The line of a source that a fault stands in.
+//! The source line of a fault, with carets.
 
 ghost use Rattle.std.specs.Prelude.{◌≤◌, length};
 
@@ -14,7 +14,7 @@ const MOST_BEFORE: usize = 100;
 /// The most bytes of a line that are shown from an offset on.
 const MOST_BEHIND: usize = 200;
 
-/// Whether a byte goes on with a character.
+/// Whether a byte continues a character.
 fn is_continuation(byte: u8) -> bool {
     (0x80..0xc0).contains(&byte)
 }
@@ -36,7 +36,7 @@ fn shown_from(text: &[u8], offset: usize) -> usize
     from
 }
 
-/// Where what is shown from an offset on ends: with its line, or with a character at most so many bytes behind it.
+/// Where what is shown from an offset on ends: with its line, or with a character at most so many bytes after it.
 fn shown_to(text: &[u8], offset: usize) -> usize
     requires { offset ≤ length text.now }
     ensures from { offset ≤ result }
@@ -55,7 +55,7 @@ fn shown_to(text: &[u8], offset: usize) -> usize
     if most == text.len() { most } else { to }
 }
 
-/// How a character of a text that others made is shown: a control character as `?`, but for these.
+/// How a character of untrusted text is shown: a control character as `?`, except these.
 fn shown_as(c: char, but: &str) -> char {
     if c.is_control() && !but.contains(c) {
         '?'
@@ -64,7 +64,7 @@ fn shown_as(c: char, but: &str) -> char {
     }
 }
 
-/// Writes a text that others made, as a file's name, with `?` for control characters, but for these.
+/// Writes untrusted text, such as a file's name, with `?` for control characters, except these.
 pub fn write_shown<W: Write>(text: &str, but: &str, to: &mut W) -> io::Result<()> {
     'characters: for c in text.chars() {
         write!(to, "{}", shown_as(c, but))?;
@@ -95,7 +95,7 @@ fn push_times<A: Allocator>(
     Ok(())
 }
 
-/// Adds a sign for each column that a part of a line takes on a terminal; a tab stays where a space stands for it.
+/// Adds a sign for each column that a part of a line takes on a terminal; a tab stays if the sign is a space.
 fn push_under<A: Allocator>(
     shown: &mut String<A>,
     part: &str,

@@ -1,8 +1,8 @@
-//! What is told of a character that begins no token, and of a string that is none.
+//! Hints for a character that begins no token, and for a bad string.
 
 const NO_FLOATING: &str = "there are no floating constants";
 
-/// What is told of a letter or a digit right behind a constant, which ends in the byte before it.
+/// The hint for a letter or digit directly after a constant, which ends in the byte before it.
 fn of_letter(before: u8, byte: u8) -> &'static str {
     match (before, byte) {
         (b'0', b'x' | b'X') => "hexadecimal digits must follow 0x",
@@ -15,14 +15,16 @@ fn of_letter(before: u8, byte: u8) -> &'static str {
     }
 }
 
-/// What is told of a byte of ASCII that begins no token.
+/// The hint for a byte of ASCII that begins no token.
 fn of_byte(byte: u8) -> Option<&'static str> {
     match byte {
         b'\'' => Some(
             "there are no character constants: write the number, or put the character in a format",
         ),
         b'.' => Some("there are no structs: use one array per member"),
-        b'\\' => Some("a backslash does not continue a line, and escapes are allowed only in strings"),
+        b'\\' => Some(
+            "a backslash does not continue a line, and escapes are allowed only in strings",
+        ),
         b'#' => Some("a directive must be alone on its line"),
         b'@' | b'$' | b'`' => Some("no name or operator contains this character"),
         0..=0x1f | 0x7f => Some("a control character: only white space is allowed here"),
@@ -30,7 +32,7 @@ fn of_byte(byte: u8) -> Option<&'static str> {
     }
 }
 
-/// What is told of characters outside of ASCII, by their bytes in UTF-8: those that editors and word processors write.
+/// The hint for characters outside ASCII, by their bytes in UTF-8: those that editors and word processors write.
 fn of_bytes(bytes: &[u8]) -> &'static str {
     match bytes {
         [0xef, 0xbb, 0xbf, ..] => "U+FEFF, a byte order mark: save the file without it",
@@ -39,14 +41,13 @@ fn of_bytes(bytes: &[u8]) -> &'static str {
             "a typographic quotation mark, and there are no character constants",
         [0xe2, 0x80, 0x9c | 0x9d, ..] =>
             "a typographic quotation mark: a string begins and ends with \"",
-        [0xe2, 0x80, 0x93 | 0x94, ..] | [0xe2, 0x88, 0x92, ..] =>
-            "a typographic dash: minus is -",
+        [0xe2, 0x80, 0x93 | 0x94, ..] | [0xe2, 0x88, 0x92, ..] => "a typographic dash: minus is -",
         [0xe2, 0x80, 0x8b, ..] => "U+200B, a zero-width space: remove it",
         _ => "only comments may contain characters outside ASCII",
     }
 }
 
-/// What is told of a character at an offset, which begins no token.
+/// The hint for a character at an offset, which begins no token.
 pub(crate) fn of_character(text: &[u8], offset: usize) -> Option<&'static str> {
     let from = text.get(offset..text.len()).unwrap_or(b"");
     let before = match offset.checked_sub(1) {
@@ -70,7 +71,7 @@ pub(crate) fn of_character(text: &[u8], offset: usize) -> Option<&'static str> {
     }
 }
 
-/// What is told of a string that is none: the text from its quotation mark on.
+/// The hint for a bad string, by the text from its quotation mark on.
 pub(crate) fn of_string(from: &[u8]) -> &'static str {
     let mut is_escaped = false;
     'bytes: for (at, byte) in from.iter().enumerate() {

@@ -1,4 +1,4 @@
-//! A fault in one line, as compilers tell it and editors read it.
+//! A fault in one line, as compilers print it and editors read it.
 
 use crate::beside::hints;
 use crate::carets::push_shown;
@@ -16,7 +16,7 @@ pub struct Fault<'t> {
     pub span: Span,
 }
 
-/// Adds the first of some lines behind a colon, where there is one.
+/// Adds a colon and the first of some lines, if there is one.
 fn push_first<A: Allocator>(to: &mut String<A>, lines: &str) -> Result<(), AllocError> {
     match lines.lines().next() {
         Some(line) => {
@@ -27,7 +27,7 @@ fn push_first<A: Allocator>(to: &mut String<A>, lines: &str) -> Result<(), Alloc
     }
 }
 
-/// Adds a fault, and the first of the lines that are told beside it.
+/// Adds a fault and the first of its hints.
 fn push_short<A: Allocator + Copy>(
     alloc: A,
     to: &mut String<A>,
@@ -44,8 +44,8 @@ fn push_short<A: Allocator + Copy>(
     to.push_str(format!(in alloc; " [{number:02}]\n")?.as_str())
 }
 
-/// The line in which a fault is told for editors, `FILE:LINE:COL: error: WORDS: TOLD [NN]`, with the first of what is
-/// told beside it. A control character of the file's name is shown as `?`.
+/// The line of a fault for editors, `FILE:LINE:COL: error: WORDS: HINT [NN]`, with the first of its
+/// hints. A control character of the file's name is shown as `?`.
 pub fn short_line<A: Allocator + Copy>(
     alloc: A,
     fault: Fault<'_>,

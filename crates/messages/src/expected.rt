@@ -1,4 +1,4 @@
-//! What could stand at a place: the tokens with which `parse` goes on.
+//! What could be at a place: the tokens with which `parse` continues.
 
 use lex::token::{Keyword, Kind, Punctuator, Scalar, Span, Token};
 use parse::{ParseFault, parse};
@@ -7,7 +7,7 @@ use std::alloc::{AllocError, Allocator};
 /// A token.
 type Candidate = Kind<'static>;
 
-/// What a token is a part of. It is not told by itself where the whole of that could stand.
+/// What a token is a part of. It is not listed by itself if the whole could be there.
 #[derive(Clone, Copy, PartialEq, Eq)]
 enum Part {
     Nothing,
@@ -17,7 +17,7 @@ enum Part {
     Assignment,
 }
 
-/// Tokens that are told by their spelling, and what each is a part of.
+/// Tokens that are listed by their spelling, and what each is a part of.
 fn alone() -> &'static [(Candidate, &'static str, Part)] {
     static ROWS: [(Candidate, &'static str, Part); 16] = [
         (
@@ -156,7 +156,7 @@ fn goes_on<A: Allocator + Copy>(
     }
 }
 
-/// Whether programs go on with each of these tokens.
+/// Whether programs continue with each of these tokens.
 fn all_go_on<A: Allocator + Copy>(
     alloc: A,
     tokens: &mut Vec<Token<'_>, A>,
@@ -170,7 +170,7 @@ fn all_go_on<A: Allocator + Copy>(
     Ok(true)
 }
 
-/// What of many beginnings could stand behind tokens that begin a program.
+/// Which constructs with many first tokens could follow tokens that begin a program.
 #[derive(Clone, Copy)]
 struct Groups {
     declaration: bool,
@@ -180,7 +180,7 @@ struct Groups {
     operator: bool,
 }
 
-/// What of many beginnings could stand behind these tokens.
+/// Which constructs with many first tokens could follow these tokens.
 fn groups_behind<A: Allocator + Copy>(
     alloc: A,
     tokens: &mut Vec<Token<'_>, A>,
@@ -194,7 +194,7 @@ fn groups_behind<A: Allocator + Copy>(
     })
 }
 
-/// Whether the whole of what a token is a part of could stand.
+/// Whether the whole construct that a token is a part of could be there.
 fn has_whole(groups: Groups, part: Part) -> bool {
     match part {
         Part::Nothing => false,
@@ -205,7 +205,7 @@ fn has_whole(groups: Groups, part: Part) -> bool {
     }
 }
 
-/// Adds the single tokens that could stand behind these, but those that are a part of what could stand.
+/// Adds the single tokens that could follow these, except those that are a part of a construct that could.
 fn push_alone<A: Allocator + Copy>(
     alloc: A,
     told: &mut Vec<&'static str, A>,
@@ -220,7 +220,7 @@ fn push_alone<A: Allocator + Copy>(
     Ok(())
 }
 
-/// Adds what has many beginnings and could stand.
+/// Adds the constructs that could be there.
 fn push_groups<A: Allocator>(
     told: &mut Vec<&'static str, A>,
     groups: Groups,
@@ -240,8 +240,8 @@ fn push_groups<A: Allocator>(
     Ok(())
 }
 
-/// What could stand behind tokens that begin a program, as it is told: single tokens, and then what has many
-/// beginnings.
+/// What could follow tokens that begin a program, as it is listed: single tokens, then constructs with many
+/// first tokens.
 pub(crate) fn expected_tokens<A: Allocator + Copy>(
     alloc: A,
     tokens: &mut Vec<Token<'_>, A>,
@@ -253,7 +253,7 @@ pub(crate) fn expected_tokens<A: Allocator + Copy>(
     Ok(told)
 }
 
-/// What stands before a word of a list, by its number from 0 and by how many words there are.
+/// What precedes a word of a list, by its number from 0 and by how many words there are.
 fn between(number: usize, count: usize) -> &'static str {
     match (number, count.saturating_sub(number)) {
         (0, _) => "expected ",
@@ -262,7 +262,7 @@ fn between(number: usize, count: usize) -> &'static str {
     }
 }
 
-/// Adds a line that says what is expected, where there is something.
+/// Adds a line that says what is expected, if anything is.
 pub(crate) fn push_expected<A: Allocator>(
     to: &mut String<A>,
     words: &[&str],

@@ -1,7 +1,7 @@
-//! What each fault means, as docs/ERRORS.md says it: written by scripts/faults.py.
+//! The explanation of each fault and of each end of a thread: written by scripts/faults.py from docs/ERRORS.md.
 
-/// What a fault means, when it comes, with its place and an example: lines that end with LF. `None` where no fault has
-/// the number.
+/// The explanation of a fault: when it is reported, its place, an example and a fix, in lines that end with LF. `None`
+/// if no fault has the number.
 pub fn explanation(number: u32) -> Option<&'static str> {
     match number {
         0 => Some(
@@ -128,7 +128,7 @@ pub fn explanation(number: u32) -> Option<&'static str> {
     }
 }
 
-/// What the trap of a number is, in the same form.
+/// The explanation of a trap, in the same form.
 fn trap_explanation(number: u32) -> Option<&'static str> {
     match number {
         1 => Some(
@@ -150,7 +150,7 @@ fn trap_explanation(number: u32) -> Option<&'static str> {
     }
 }
 
-/// What the end is that a report has by a word.
+/// The explanation of an end of a thread, by its word in a report.
 fn word_explanation(word: &str) -> Option<&'static str> {
     match word {
         "trap" => Some(
@@ -175,8 +175,8 @@ fn word_explanation(word: &str) -> Option<&'static str> {
     }
 }
 
-/// What it means that a thread is found so, by its word in a report, and for a trap by the number behind it; all traps
-/// without one. Lines that end with LF. `None` where no thread is found so.
+/// The explanation of an end of a thread, by its word in a report and, for a trap, by its number; without a number, of
+/// all traps. Lines that end with LF. `None` if there is no such end.
 pub fn end_explanation(word: &str, number: Option<u32>) -> Option<&'static str> {
     match number {
         None => word_explanation(word),

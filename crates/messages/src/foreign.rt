@@ -1,9 +1,9 @@
-//! What is told of words that other languages have, and txc's C has not.
+//! Hints for words of other languages that txc's C does not have.
 
 use crate::tokens::next_declaration;
 use lex::token::{Kind, Token};
 
-/// A word, and what is told of it.
+/// A word, and its hint.
 type Row = (&'static str, &'static str);
 
 pub(crate) const TYPES: &str = "the types are int, unsigned and long long";
@@ -29,16 +29,16 @@ const LIMITS: &str = "only numbers are constants: write the number";
 
 const LOCKS: &str = "there are no locks: access shared variables in __transaction_atomic { .. }";
 
-const SHARED: &str = "a shared variable is an ordinary global: access it in __transaction_atomic { .. }";
+const SHARED: &str =
+    "a shared variable is an ordinary global: access it in __transaction_atomic { .. }";
 
 const THREADS: &str = "the option --threads T starts threads, and transactions replace locks";
 
-const WAITS: &str =
-    "to wait, repeat a transaction: while (!done) { __transaction_atomic { .. } }";
+const WAITS: &str = "to wait, repeat a transaction: while (!done) { __transaction_atomic { .. } }";
 
 const OWN: &str = "all threads share each global: use a local variable for a thread's own data";
 
-/// Reserved words of C that have no place here.
+/// Reserved words of C that txc's C does not use.
 fn reserved() -> &'static [Row] {
     static ROWS: [Row; 21] = [
         ("char", TYPES),
@@ -52,7 +52,10 @@ fn reserved() -> &'static [Row] {
         ("switch", SWITCH),
         ("case", SWITCH),
         ("default", SWITCH),
-        ("goto", "there is no goto: use a loop with break or continue"),
+        (
+            "goto",
+            "there is no goto: use a loop with break or continue",
+        ),
         ("sizeof", "there is no sizeof: write the number"),
         (
             "static",
@@ -72,7 +75,7 @@ fn reserved() -> &'static [Row] {
     &ROWS
 }
 
-/// Names with which other C, or another language, says what txc's C says otherwise.
+/// Names for which txc's C has another way.
 fn foreign_names() -> &'static [Row] {
     static ROWS: [Row; 51] = [
         ("bool", TYPES),
@@ -169,7 +172,7 @@ fn library() -> &'static [Row] {
     &ROWS
 }
 
-/// Beginnings of names, and what is told of names that begin so.
+/// Prefixes of names, and the hints for names that begin so.
 fn beginnings() -> &'static [Row] {
     static ROWS: [Row; 19] = [
         ("__transaction", TRANSACTIONS),
@@ -201,7 +204,7 @@ fn beginnings() -> &'static [Row] {
     &ROWS
 }
 
-/// What rows tell of a word.
+/// The hint of some rows for a word.
 fn told_of(rows: &[Row], word: &str) -> Option<&'static str> {
     'rows: for row in rows {
         if row.0 == word {
@@ -211,12 +214,12 @@ fn told_of(rows: &[Row], word: &str) -> Option<&'static str> {
     None
 }
 
-/// What is told of a reserved word of C that has no place in txc's.
+/// The hint for a reserved word of C that txc's C does not use.
 pub(crate) fn of_reserved(word: &str) -> &'static str {
     told_of(reserved(), word).unwrap_or("it is not a keyword of txc's C")
 }
 
-/// What is told of a token that is a foreign name, which the source declares nowhere.
+/// The hint for a token that is a foreign name, which the source does not declare.
 pub(crate) fn of_foreign(tokens: &[Token<'_>], kind: Option<Kind<'_>>) -> Option<&'static str> {
     match kind {
         Some(Kind::Name(name)) if next_declaration(tokens, name, 0).is_none() => {
@@ -226,7 +229,7 @@ pub(crate) fn of_foreign(tokens: &[Token<'_>], kind: Option<Kind<'_>>) -> Option
     }
 }
 
-/// What is told of a name that is not known, where it is one of C's library or a foreign one.
+/// The hint for an unknown name, if it is one of C's library or a foreign one.
 pub(crate) fn of_unknown(name: &str) -> Option<&'static str> {
     match told_of(library(), name) {
         Some(words) => Some(words),
@@ -234,7 +237,7 @@ pub(crate) fn of_unknown(name: &str) -> Option<&'static str> {
     }
 }
 
-/// What is told of a token by the beginning of its name, which the source declares nowhere.
+/// The hint for a token by the prefix of its name, which the source does not declare.
 pub(crate) fn of_beginning(tokens: &[Token<'_>], kind: Option<Kind<'_>>) -> Option<&'static str> {
     let Some(Kind::Name(name)) = kind else {
         return None;
@@ -250,7 +253,7 @@ pub(crate) fn of_beginning(tokens: &[Token<'_>], kind: Option<Kind<'_>>) -> Opti
     None
 }
 
-/// What is told of a call by the token of its function's name, which the source declares nowhere.
+/// The hint for a call by the token of its function's name, which the source does not declare.
 pub(crate) fn of_called(tokens: &[Token<'_>], kind: Option<Kind<'_>>) -> Option<&'static str> {
     match kind {
         Some(Kind::Name(name)) if next_declaration(tokens, name, 0).is_none() => {

@@ -1,14 +1,14 @@
-//! What is told of a format that `printf` does not take (C11 7.21.6.1), and of counts.
+//! Hints for a format that `printf` rejects (C11 7.21.6.1), and for counts.
 
 use crate::lines::Line;
 use crate::tokens::{commas, is_punctuator, kind_at, kind_before, kind_up, open_bracket, parts};
 use lex::token::{Keyword, Kind, Punctuator, Token};
 
-/// What is told of conversions and of arguments of other types.
+/// The hint for conversions and for arguments of other types.
 pub(crate) const CONVERSIONS: &str =
     "the conversions are %d (int), %u (unsigned) and %lld (long long), with one argument each";
 
-/// Whether a byte may stand between the `%` and the last byte of a specifier.
+/// Whether a byte may be between the `%` and the last byte of a specifier.
 fn is_inside(byte: u8) -> bool {
     matches!(
         byte,
@@ -26,7 +26,7 @@ fn specifier_end(format: &[u8], start: usize) -> usize {
     format.len()
 }
 
-/// The conversions of a format but for `%%`: how many there are, the one of a number, and the first that there is not
+/// The conversions of a format except `%%`: how many there are, the one of a number, and the first that does not exist
 /// in txc.
 #[derive(Clone, Copy)]
 struct Conversions<'t> {
@@ -53,7 +53,7 @@ fn with_one<'t>(found: Conversions<'t>, conversion: &'t str, wanted: u64) -> Con
     }
 }
 
-/// Reads a format; the wanted conversion is told by its number, from 0.
+/// Reads a format; the wanted conversion is given by its number, from 0.
 fn read_format(format: &str, wanted: u64) -> Conversions<'_> {
     let bytes = format.as_bytes();
     let mut found = Conversions {
@@ -74,7 +74,7 @@ fn read_format(format: &str, wanted: u64) -> Conversions<'_> {
     found
 }
 
-/// What is told of an argument of another type than the one that a conversion prints.
+/// The hint for an argument of another type than the one that a conversion prints.
 fn printed(conversion: &str) -> Option<&'static str> {
     match conversion {
         "%d" => Some("%d prints it and needs an int"),
@@ -84,7 +84,7 @@ fn printed(conversion: &str) -> Option<&'static str> {
     }
 }
 
-/// Whether a conversion that there is not is a `%` by itself.
+/// Whether an unknown conversion is a `%` by itself.
 fn is_alone(conversion: &str) -> bool {
     match conversion.as_bytes() {
         [_, b' ', ..] => true,
@@ -93,7 +93,7 @@ fn is_alone(conversion: &str) -> bool {
     }
 }
 
-/// Tells of a conversion that there is not.
+/// The hint for an unknown conversion.
 fn of_unknown(conversion: &str) -> Line<'_> {
     match conversion {
         "%c" | "%s" => Line::Words("there is no %c or %s: put the characters in the format"),
@@ -102,7 +102,7 @@ fn of_unknown(conversion: &str) -> Line<'_> {
     }
 }
 
-/// Tells of a format, the token of a number, which conversion there is not, or how many arguments it asks for.
+/// The hint for a format: which conversion does not exist, or how many arguments it needs.
 fn of_format<'t>(tokens: &[Token<'_>], number: usize, format: &'t str) -> Option<Line<'t>> {
     let found = read_format(format, 0);
     if !found.unknown.is_empty() {
@@ -117,7 +117,7 @@ fn of_format<'t>(tokens: &[Token<'_>], number: usize, format: &'t str) -> Option
     }
 }
 
-/// Tells of an argument of `printf`, whose first token is that of a number, which conversion prints it.
+/// The hint for an argument of `printf`, by its first token: which conversion prints it.
 fn of_argument(tokens: &[Token<'_>], number: usize) -> Option<Line<'static>> {
     let first = open_bracket(tokens, number)?.saturating_add(1);
     let Some(Kind::StringLiteral(format)) = kind_at(tokens, first) else {
@@ -128,7 +128,7 @@ fn of_argument(tokens: &[Token<'_>], number: usize) -> Option<Line<'static>> {
     Some(Line::Words(words))
 }
 
-/// Tells of a format or of an argument of `printf`, whose first token is that of a number.
+/// The hint for a format or an argument of `printf`, by its first token.
 pub(crate) fn of_printed<'t>(tokens: &[Token<'t>], number: usize) -> Option<Line<'t>> {
     match (kind_at(tokens, number), kind_up(tokens, number, 2)) {
         (Some(Kind::StringLiteral(format)), Some(Kind::Keyword(Keyword::Printf))) => {
@@ -138,7 +138,7 @@ pub(crate) fn of_printed<'t>(tokens: &[Token<'t>], number: usize) -> Option<Line
     }
 }
 
-/// Tells of the values of an array, the first token of one of which is that of a number, how many cells there are and
+/// The hint for the values of an array, by the first token of one of them: how many cells there are and
 /// how many values.
 pub(crate) fn of_values(tokens: &[Token<'_>], number: usize) -> Option<Line<'static>> {
     let open = open_bracket(tokens, number)?;

@@ -1,5 +1,5 @@
-//! What is told of a fault: its words, what it means, the line of a source that it stands in; and beside it, to
-//! whoever wrote the source, what could stand at its place and what was meant.
+//! Texts for people: a fault's words, its explanation, its source line with carets; and hints: what could
+//! be at its place, and what was probably meant.
 #![tactic(auto)]
 
 mod beside;

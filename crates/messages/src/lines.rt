@@ -1,4 +1,4 @@
-//! Lines that are told beside a fault, and what stands in them.
+//! The lines of hints, and what they contain.
 
 use lex::place;
 use std::alloc::{AllocError, Allocator};
@@ -6,14 +6,14 @@ use std::alloc::{AllocError, Allocator};
 /// How many, and of what.
 pub(crate) type Count = (u64, &'static str);
 
-/// A line that is told.
+/// A line of a hint.
 #[derive(Clone, Copy)]
 pub(crate) enum Line<'t> {
     /// Words alone.
     Words(&'static str),
-    /// Words, and behind them one of the source or of the language.
+    /// Words, then a word of the source or of the language.
     Named(&'static str, &'t str),
-    /// Words, and behind them the line and the column of an offset.
+    /// Words, then the line and the column of an offset.
     Placed(&'static str, usize),
     /// How many there are to be, and how many there are: `2 conversions, 1 argument`.
     Counted(Count, Count),
@@ -41,7 +41,7 @@ fn push_count<A: Allocator + Copy>(
     to.push_str(format!(in alloc; "{number} {word}{ending}")?.as_str())
 }
 
-/// Adds what stands in a line, without its end.
+/// Adds a line's contents, without its end.
 fn push_parts<A: Allocator + Copy>(
     alloc: A,
     to: &mut String<A>,
@@ -66,7 +66,7 @@ fn push_parts<A: Allocator + Copy>(
     }
 }
 
-/// Adds a line of what is told of a text, where there is one.
+/// Adds a hint for a text, if there is one.
 pub(crate) fn push_line<A: Allocator + Copy>(
     alloc: A,
     to: &mut String<A>,

@@ -1,4 +1,4 @@
-//! What is told of an unexpected token: by what it is, and by what stands before it.
+//! Hints for an unexpected token: by what it is, and by what precedes it.
 
 use crate::foreign::{of_beginning, of_called, of_foreign, of_reserved};
 use crate::tokens::{
@@ -7,7 +7,7 @@ use crate::tokens::{
 };
 use lex::token::{Keyword, Kind, Punctuator, Token};
 
-/// What a token is, as far as it is asked here.
+/// What a token is, as far as it matters here.
 #[derive(Clone, Copy)]
 enum Class {
     /// Any token, or none.
@@ -27,11 +27,11 @@ enum Class {
     Step,
     /// An assignment's operator.
     Assignment,
-    /// What stands before a statement or behind one: `;`, `{`, `}`.
+    /// What precedes or follows a statement: `;`, `{`, `}`.
     Border,
 }
 
-/// Tokens one behind another, the last of which is unexpected, and what is told of it.
+/// Consecutive tokens, the last of which is unexpected, and its hint.
 type Row = ([Class; 4], &'static str);
 
 const ATTRIBUTES: &str =
@@ -52,7 +52,7 @@ const ONE_LIST: &str = "an array has one dimension: write its values in one list
 
 const LENGTH: &str = "an array's length must be a number";
 
-/// What is told of tokens by what stands before them: of the first row that fits.
+/// Hints for tokens by what precedes them; the first row that fits counts.
 fn pairs() -> &'static [Row] {
     use Class::{Any, Border, Literal, Name, Number, Operator, Sign, Type, Word};
     use Keyword::{Attribute, Long, Void};
@@ -82,10 +82,7 @@ fn pairs() -> &'static [Row] {
         ([Any, Border, Name, Sign(Colon)], "there are no labels"),
         ([Any, Any, Word(Long), Name], "write long long"),
         ([Any, Any, Word(Long), Type], LONG),
-        (
-            [Any, Any, Name, Sign(OpenBracket)],
-            "arrays must be global",
-        ),
+        ([Any, Any, Name, Sign(OpenBracket)], "arrays must be global"),
         (
             [Any, Any, Number, Operator],
             "only a number is allowed here: write the result",
@@ -118,7 +115,7 @@ fn pairs() -> &'static [Row] {
     &ROWS
 }
 
-/// What is told of a token whatever stands before it.
+/// Hints for a token whatever precedes it.
 fn alone() -> &'static [(Class, &'static str)] {
     static ROWS: [(Class, &str); 8] = [
         (Class::Word(Keyword::Long), LONG),
@@ -214,7 +211,7 @@ fn fits(tokens: &[Token<'_>], number: usize, classes: &[Class]) -> bool {
     true
 }
 
-/// What is told of the token of a number by what stands before it.
+/// The hint for the token at an index by what precedes it.
 fn of_pairs(tokens: &[Token<'_>], number: usize) -> Option<&'static str> {
     'rows: for row in pairs() {
         if fits(tokens, number, &row.0) {
@@ -224,7 +221,7 @@ fn of_pairs(tokens: &[Token<'_>], number: usize) -> Option<&'static str> {
     None
 }
 
-/// What is told of a token by itself.
+/// The hint for a token by itself.
 fn of_class(kind: Option<Kind<'_>>) -> Option<&'static str> {
     'rows: for row in alone() {
         if is_of(kind, row.0) {
@@ -234,7 +231,7 @@ fn of_class(kind: Option<Kind<'_>>) -> Option<&'static str> {
     None
 }
 
-/// What stands before the bracket that the token before that of a number closes.
+/// What precedes the bracket that is closed by the token before the one at an index.
 pub(crate) fn called_before<'t>(tokens: &[Token<'t>], number: usize) -> Option<Kind<'t>> {
     let closing = number.checked_sub(1)?;
     if !is_punctuator(kind_at(tokens, closing), Punctuator::CloseParen) {
@@ -251,7 +248,7 @@ fn is_within(tokens: &[Token<'_>], number: usize, bracket: Punctuator) -> bool {
     }
 }
 
-/// What is told of the brace at a number, by what stands before the bracket before it.
+/// The hint for the brace at an index, by what precedes the bracket before it.
 fn of_body(tokens: &[Token<'_>], number: usize) -> Option<&'static str> {
     if !is_punctuator(kind_at(tokens, number), Punctuator::OpenBrace) {
         return None;
@@ -276,7 +273,7 @@ fn is_first(tokens: &[Token<'_>], number: usize) -> bool {
     }
 }
 
-/// What is told of the token of a number by the beginning of its name, where a declaration may begin.
+/// The hint for the token at an index by the prefix of its name, if a declaration may begin there.
 fn of_first(tokens: &[Token<'_>], number: usize) -> Option<&'static str> {
     if is_first(tokens, number) {
         of_beginning(tokens, kind_at(tokens, number))
@@ -285,7 +282,7 @@ fn of_first(tokens: &[Token<'_>], number: usize) -> Option<&'static str> {
     }
 }
 
-/// What is told of the token of a number where it is the name of a function without a type.
+/// The hint for the token at an index if it is the name of a function without a type.
 fn of_untyped(tokens: &[Token<'_>], number: usize) -> Option<&'static str> {
     let is_called = is_of(kind_at(tokens, number), Class::Name)
         && is_punctuator(kind_behind(tokens, number), Punctuator::OpenParen);
@@ -300,7 +297,7 @@ fn of_untyped(tokens: &[Token<'_>], number: usize) -> Option<&'static str> {
     }
 }
 
-/// What is told of an address or a type among the arguments of a call, by the name of what is called.
+/// The hint for an address or a type among the arguments of a call, by the name of the function.
 fn of_argument(tokens: &[Token<'_>], number: usize) -> Option<&'static str> {
     let kind = kind_at(tokens, number);
     let is_asked = is_punctuator(kind, Punctuator::And) || is_type(kind);
@@ -310,20 +307,20 @@ fn of_argument(tokens: &[Token<'_>], number: usize) -> Option<&'static str> {
     of_called(tokens, kind_before(tokens, open_bracket(tokens, number)?))
 }
 
-/// Whether two colons stand one behind the other from the token of a number on.
+/// Whether the token at an index and the next one are colons.
 fn has_colons(tokens: &[Token<'_>], number: usize) -> bool {
     is_punctuator(kind_at(tokens, number), Punctuator::Colon)
         && is_punctuator(kind_behind(tokens, number), Punctuator::Colon)
 }
 
-/// Whether the token of a number is one of two colons, or stands before them.
+/// Whether the token at an index is one of two colons, or precedes them.
 fn is_scoped(tokens: &[Token<'_>], number: usize) -> bool {
     has_colons(tokens, number.saturating_sub(1))
         || has_colons(tokens, number)
         || has_colons(tokens, number.saturating_add(1))
 }
 
-/// Whether the token of a number is the bracket behind a function's name, within another function.
+/// Whether the token at an index is the bracket after a function's name, within another function.
 fn is_inner_function(tokens: &[Token<'_>], number: usize) -> bool {
     is_punctuator(kind_at(tokens, number), Punctuator::OpenParen)
         && matches!(kind_before(tokens, number), Some(Kind::Name(_)))
@@ -348,7 +345,7 @@ fn assigns_twice(tokens: &[Token<'_>], number: usize) -> bool {
     false
 }
 
-/// Whether a token may end a statement but for its `;`.
+/// Whether a token may end a statement except for its `;`.
 fn may_end(kind: Option<Kind<'_>>) -> bool {
     matches!(
         kind,
@@ -360,8 +357,8 @@ fn may_end(kind: Option<Kind<'_>>) -> bool {
     )
 }
 
-/// Whether the token of a number begins a line, and the one before it may end a statement: what is unexpected of it is
-/// then rather that it stands there.
+/// Whether the token at an index begins a line, and the one before it may end a statement: then the likely mistake is
+/// before it.
 fn begins_line(text: &str, tokens: &[Token<'_>], number: usize) -> bool {
     let before = number.saturating_sub(1);
     let end = tokens.get(before).map_or(0, |it| it.span.end);
@@ -369,10 +366,10 @@ fn begins_line(text: &str, tokens: &[Token<'_>], number: usize) -> bool {
     may_end(kind_at(tokens, before)) && between.contains('\n')
 }
 
-/// What is told of an unexpected token, that of a number.
+/// The hint for an unexpected token, the one at an index.
 pub(crate) fn of_token(text: &str, tokens: &[Token<'_>], number: usize) -> Option<&'static str> {
     let kind = kind_at(tokens, number);
-    // Where an index is not closed before `=`, its bracket is missing rather than a comparison.
+    // If an index is not closed before `=`, its bracket is missing rather than a comparison.
     if is_punctuator(kind, Punctuator::Assign)
         && is_within(tokens, number, Punctuator::OpenBracket)
     {

@@ -1,4 +1,4 @@
-//! What is told of names: of unknown ones, of those declared twice or with another type, of calls, and of the worker.
+//! Hints for names: unknown ones, those declared twice or with another type, calls, and the worker.
 
 use crate::foreign::{of_beginning, of_unknown};
 use crate::lines::Line;
@@ -11,7 +11,7 @@ use crate::unexpected::near_word;
 use lex::token::{Keyword, Kind, Punctuator, Token};
 use std::alloc::{AllocError, Allocator};
 
-/// Tells which name of a source is nearly this one.
+/// A name of the source that is similar to this one.
 fn near_name<'t, A: Allocator + Copy>(
     alloc: A,
     tokens: &[Token<'t>],
@@ -29,7 +29,7 @@ fn near_name<'t, A: Allocator + Copy>(
     Ok(None)
 }
 
-/// Tells which name or word is nearly an unknown name, the token of a number, or that none is.
+/// The hint for an unknown name: a similar name or keyword, or that there is none.
 fn near<'t, A: Allocator + Copy>(
     alloc: A,
     tokens: &[Token<'t>],
@@ -48,7 +48,7 @@ fn near<'t, A: Allocator + Copy>(
     })
 }
 
-/// Tells where an unknown name, the token of a number, is declared all the same.
+/// The hint for an unknown name that is declared elsewhere.
 fn declared_elsewhere(tokens: &[Token<'_>], unknown: &str, number: usize) -> Option<Line<'static>> {
     if next_declaration(tokens, unknown, number).is_some() {
         return Some(Line::Words(
@@ -62,7 +62,7 @@ fn declared_elsewhere(tokens: &[Token<'_>], unknown: &str, number: usize) -> Opt
     ))
 }
 
-/// Tells of a name that is not known, the token of a number, which one may be meant.
+/// The hint for an unknown name: which one was probably meant.
 pub(crate) fn of_name<'t, A: Allocator + Copy>(
     alloc: A,
     tokens: &[Token<'t>],
@@ -78,7 +78,7 @@ pub(crate) fn of_name<'t, A: Allocator + Copy>(
     }
 }
 
-/// Tells behind these words where a name, the token of a number, is declared.
+/// These words and the place where a name is declared.
 pub(crate) fn of_declared(
     tokens: &[Token<'_>],
     name: &str,
@@ -89,7 +89,7 @@ pub(crate) fn of_declared(
     Some(Line::Placed(words, offset_at(tokens, first)))
 }
 
-/// Tells of a call, the token of a number, how many parameters its function has and how many arguments stand there.
+/// The hint for a call: how many parameters its function has and how many arguments are given.
 pub(crate) fn of_call(tokens: &[Token<'_>], name: &str, number: usize) -> Option<Line<'static>> {
     let first = declared(tokens, name, number)?;
     let wanted = parts(tokens, first.saturating_add(1))?;
@@ -97,7 +97,7 @@ pub(crate) fn of_call(tokens: &[Token<'_>], name: &str, number: usize) -> Option
     Some(Line::Counted((wanted, "parameter"), (given, "argument")))
 }
 
-/// What a name is declared or used as, by what stands behind it.
+/// What a name is declared or used as, by what follows it.
 #[derive(Clone, Copy)]
 enum Form {
     /// A function, a call.
@@ -117,7 +117,7 @@ fn form_at(tokens: &[Token<'_>], number: usize) -> Form {
     }
 }
 
-/// What is told of a name that is declared as one thing, and used as another.
+/// The hint for a name that is declared as one thing, and used as another.
 fn of_forms(declared: Form, used: Form) -> Option<&'static str> {
     match (declared, used) {
         (Form::Function, Form::Plain) => Some("it is a function: its name is not a value"),
@@ -128,7 +128,7 @@ fn of_forms(declared: Form, used: Form) -> Option<&'static str> {
     }
 }
 
-/// Tells of a name of a wrong type, the token of a number, what it is.
+/// The hint for a name of a wrong type: what it is.
 fn of_typed_name(tokens: &[Token<'_>], name: &str, number: usize) -> Option<Line<'static>> {
     if is_type(kind_before(tokens, number)) {
         let words = "it is declared with different types at ";
@@ -145,7 +145,7 @@ fn of_typed_name(tokens: &[Token<'_>], name: &str, number: usize) -> Option<Line
     }
 }
 
-/// Tells of what has a wrong type, whose first token is that of a number.
+/// The hint for something of a wrong type, by its first token.
 pub(crate) fn of_type(tokens: &[Token<'_>], number: usize) -> Option<Line<'static>> {
     let is_bare = is_punctuator(kind_behind(tokens, number), Punctuator::Semicolon);
     match kind_at(tokens, number)? {
@@ -160,7 +160,7 @@ pub(crate) fn of_type(tokens: &[Token<'_>], number: usize) -> Option<Line<'stati
     }
 }
 
-/// Tells where a function is that may be meant to be the worker.
+/// The hint for a function that was probably meant to be the worker.
 pub(crate) fn near_worker<A: Allocator + Copy>(
     alloc: A,
     tokens: &[Token<'_>],
@@ -182,7 +182,7 @@ pub(crate) fn near_worker<A: Allocator + Copy>(
     Ok(None)
 }
 
-/// What is told of a program without a worker.
+/// The hint for a program without a worker.
 pub(crate) fn of_worker(tokens: &[Token<'_>]) -> &'static str {
     match next_declaration(tokens, "main", 0) {
         Some(_) => "there is no main: thread T runs worker(T), defined as void worker(int self)",

@@ -34,7 +34,7 @@ fn put_place<A: Allocator>(
     put_number(to, keys.1, column as u64)
 }
 
-/// Adds the place of something else that is spoken of, as members of an object, if there is one.
+/// Adds the other place of a warning, as members of an object, if there is one.
 fn put_other<A: Allocator>(
     to: &mut Writer<A>,
     text: &str,
@@ -59,7 +59,7 @@ fn put_notes<A: Allocator>(to: &mut Writer<A>, lines: &str) -> Result<(), AllocE
     to.end_array()
 }
 
-/// Adds a fault as an object, with the lines that are told beside it.
+/// Adds a fault as an object, with its hints.
 fn put_fault<A: Allocator>(
     to: &mut Writer<A>,
     fault: Fault<'_>,
@@ -75,8 +75,8 @@ fn put_fault<A: Allocator>(
     to.end_object()
 }
 
-/// A fault as an object of JSON (RFC 8259), in one line: the file, the places of its first byte and of the one behind
-/// its last, its number, its words and what is told beside it.
+/// A fault as an object of JSON (RFC 8259), in one line: the file, the places of its first byte and of the one after
+/// its last, its number, its words and its hints.
 pub fn json_line<A: Allocator + Copy>(
     alloc: A,
     fault: Fault<'_>,
@@ -89,7 +89,7 @@ pub fn json_line<A: Allocator + Copy>(
     Ok(line)
 }
 
-/// What is told beside a warning, in lines: where the other thing stands that it speaks of, and what may be done.
+/// The hints for a warning, in lines: its other place, and what to do.
 fn notes_of<A: Allocator + Copy>(
     alloc: A,
     text: &str,
@@ -106,7 +106,7 @@ fn notes_of<A: Allocator + Copy>(
     Ok(notes)
 }
 
-/// Adds a warning as an object, with the other place that it speaks of and the lines that are told beside it.
+/// Adds a warning as an object, with its other place and its hints.
 fn put_warning<A: Allocator>(
     to: &mut Writer<A>,
     file: &str,
@@ -127,8 +127,8 @@ fn put_warning<A: Allocator>(
     to.end_object()
 }
 
-/// The warning of a name as an object of JSON, in one line, as a fault is. `other` is the other place that it speaks of,
-/// as a write that is undone speaks of a cancel.
+/// The warning of a name as an object of JSON, in one line, as a fault is. `other` is its other place, such as the
+/// cancel that undoes a write.
 pub fn warning_line<A: Allocator + Copy>(
     alloc: A,
     file: &str,

@@ -1,4 +1,4 @@
-//! The words in which a fault is told, by its number.
+//! The words of each fault, by its number.
 
 /// The words of a fault. A number that no fault has is `unknown fault`.
 pub fn words(number: u32) -> &'static str {

@@ -1,4 +1,4 @@
-//! What stands where among a source's tokens, as far as it is told beside a fault.
+//! Positions among a source's tokens, as far as hints need them.
 
 use lex::token::{Keyword, Kind, Punctuator, Token};
 
@@ -35,7 +35,7 @@ pub(crate) fn kind_before<'t>(tokens: &[Token<'t>], number: usize) -> Option<Kin
     kind_up(tokens, number, 1)
 }
 
-/// What the token behind that of a number is.
+/// What the token after the one at an index is.
 pub(crate) fn kind_behind<'t>(tokens: &[Token<'t>], number: usize) -> Option<Kind<'t>> {
     kind_at(tokens, number.saturating_add(1))
 }
@@ -76,7 +76,7 @@ fn closes(kind: Kind<'_>) -> bool {
     )
 }
 
-/// How many brackets are open behind a token, of so many before it.
+/// How many brackets are open after a token, if so many are open before it.
 fn depth_behind(depth: usize, kind: Kind<'_>) -> usize {
     if opens(kind) {
         depth.saturating_add(1)
@@ -87,7 +87,7 @@ fn depth_behind(depth: usize, kind: Kind<'_>) -> usize {
     }
 }
 
-/// Where the brackets that open at a token are closed: the number of the token behind them.
+/// The index of the token after the brackets that open at a token.
 pub(crate) fn behind_brackets(tokens: &[Token<'_>], open: usize) -> Option<usize> {
     let mut depth = 0usize;
     'tokens: for number in open..tokens.len() {
@@ -116,7 +116,7 @@ pub(crate) fn open_bracket(tokens: &[Token<'_>], number: usize) -> Option<usize>
     None
 }
 
-/// How many commas stand among the tokens from one up to another, and in no bracket there.
+/// How many commas are among the tokens from one up to another, outside brackets.
 pub(crate) fn commas(tokens: &[Token<'_>], from: usize, to: usize) -> usize {
     let mut depth = 0usize;
     let mut commas = 0usize;
@@ -130,8 +130,8 @@ pub(crate) fn commas(tokens: &[Token<'_>], from: usize, to: usize) -> usize {
     commas
 }
 
-/// How many parts commas make of what stands in the bracket that opens at a token. `void` alone, and nothing, are none,
-/// and so is what follows the last comma where that is nothing. Nothing is told where the bracket does not close.
+/// How many parts the bracket that opens at a token has, separated by commas. `void` alone, and nothing, are none,
+/// and so is an empty part after the last comma. `None` if the bracket does not close.
 pub(crate) fn parts(tokens: &[Token<'_>], open: usize) -> Option<u64> {
     let close = behind_brackets(tokens, open)?.saturating_sub(1);
     let first = open.saturating_add(1);
@@ -147,12 +147,12 @@ pub(crate) fn parts(tokens: &[Token<'_>], open: usize) -> Option<u64> {
     })
 }
 
-/// Whether the token of a number declares a name behind a type.
+/// Whether the token at an index declares a name after a type.
 pub(crate) fn declares(tokens: &[Token<'_>], number: usize, name: &str) -> bool {
     is_name(kind_at(tokens, number), name) && is_type(kind_before(tokens, number))
 }
 
-/// The number of the first token from one on that declares a name behind a type.
+/// The index of the first token from one on that declares a name after a type.
 pub(crate) fn next_declaration(tokens: &[Token<'_>], name: &str, from: usize) -> Option<usize> {
     'tokens: for at in from..tokens.len() {
         if declares(tokens, at, name) {
@@ -162,7 +162,7 @@ pub(crate) fn next_declaration(tokens: &[Token<'_>], name: &str, from: usize) ->
     None
 }
 
-/// The number of the last token before one that declares a name behind a type.
+/// The index of the last token before one that declares a name after a type.
 pub(crate) fn last_declaration(tokens: &[Token<'_>], name: &str, to: usize) -> Option<usize> {
     'tokens: for at in (0..to).rev() {
         if declares(tokens, at, name) {
@@ -177,11 +177,11 @@ pub(crate) fn last_declaration(tokens: &[Token<'_>], name: &str, to: usize) -> O
 struct Found {
     /// The token that declares it, the first one so far.
     declared: Option<usize>,
-    /// The token that declares it behind a comma, if what it stands in is a declaration.
+    /// The token that declares it after a comma, if it is in a declaration.
     behind_comma: Option<usize>,
 }
 
-/// What is found of a name with one more token before those that were looked at.
+/// What is found of a name with one more token before those already searched.
 fn found_with(tokens: &[Token<'_>], name: &str, at: usize, found: Found) -> Found {
     let before = kind_before(tokens, at);
     match kind_at(tokens, at) {
@@ -207,7 +207,7 @@ fn found_with(tokens: &[Token<'_>], name: &str, at: usize, found: Found) -> Foun
     }
 }
 
-/// The number of the first token that declares a name, from the beginning of the scope in which a token stands.
+/// The index of the first token that declares a name, from the beginning of a token's scope.
 fn first_in_scope(tokens: &[Token<'_>], name: &str, number: usize) -> Option<usize> {
     let mut found = Found {
         declared: None,

@@ -1,4 +1,4 @@
-//! What is told of an unexpected token, and of an unexpected end.
+//! Hints for an unexpected token, and for an unexpected end.
 
 use crate::expected::{expected_tokens, push_expected};
 use crate::foreign::of_beginning;
@@ -9,10 +9,10 @@ use crate::tokens::{kind_at, kind_before, next_declaration, number_at, offset_at
 use lex::token::{Kind, Punctuator, Span, Token};
 use std::alloc::{AllocError, Allocator};
 
-/// The most bytes of a source before a place, for which it is looked what could stand there.
+/// The most bytes of a source before a place for which the tokens that could follow are computed.
 const MOST_BEFORE: usize = 65536;
 
-/// Words of which one may be written otherwise.
+/// Keywords that may be misspelt.
 fn written_words() -> &'static [&'static str] {
     static ROWS: [&str; 14] = [
         "__transaction_atomic",
@@ -33,7 +33,7 @@ fn written_words() -> &'static [&'static str] {
     &ROWS
 }
 
-/// Tells which word may be meant by a token, where that is a name that is declared nowhere.
+/// The keyword that a token may be a misspelling of, if it is an undeclared name.
 pub(crate) fn near_word<A: Allocator + Copy>(
     alloc: A,
     tokens: &[Token<'_>],
@@ -53,8 +53,8 @@ pub(crate) fn near_word<A: Allocator + Copy>(
     Ok(None)
 }
 
-/// What is told of the token before one by the beginning of its name. Where that one is a name and begins a line, a `;`
-/// may be missing between them, and nothing is told.
+/// The hint for the token before one by the prefix of its name. If that one is a name and begins a line, a `;`
+/// may be missing between them, and there is no hint.
 fn of_one_before(text: &str, tokens: &[Token<'_>], number: usize) -> Option<&'static str> {
     if let Some(Kind::Name(_)) = kind_at(tokens, number) {
         let before = tokens.get(..number).unwrap_or(&[]);
@@ -65,7 +65,7 @@ fn of_one_before(text: &str, tokens: &[Token<'_>], number: usize) -> Option<&'st
     of_beginning(tokens, kind_before(tokens, number))
 }
 
-/// Tells which word may be meant by an unexpected token, that of a number, or by one before it.
+/// The keyword that an unexpected token, or one before it, may be a misspelling of.
 fn near_words<A: Allocator + Copy>(
     alloc: A,
     text: &str,
@@ -89,7 +89,7 @@ fn near_words<A: Allocator + Copy>(
     })
 }
 
-/// Tells what is meant by an unexpected token, that of a number.
+/// What was probably meant by an unexpected token.
 fn meant<A: Allocator + Copy>(
     alloc: A,
     text: &str,
@@ -112,7 +112,7 @@ fn is_among(words: &[&str], wanted: &str) -> bool {
     false
 }
 
-/// Tells where a `;` may be missing: at the end of the last line before an offset.
+/// Where a `;` may be missing: at the end of the last line before an offset.
 fn missing_semicolon(text: &str, before: &[Token<'_>], offset: usize) -> Option<Line<'static>> {
     let end = before.last()?.span.end;
     let between = text.as_bytes().get(end..offset).unwrap_or(b"");
@@ -123,7 +123,7 @@ fn missing_semicolon(text: &str, before: &[Token<'_>], offset: usize) -> Option<
     }
 }
 
-/// Tells which bracket is open behind tokens, where the one that closes it is expected; of braces only at the end.
+/// The bracket that is open after tokens, if the one that closes it is expected; a brace only at the end.
 fn open_since(before: &[Token<'_>], expected: &[&str], is_end: bool) -> Option<Line<'static>> {
     let open = open_bracket(before, before.len())?;
     let (closing, words) = match kind_at(before, open)? {
@@ -139,7 +139,7 @@ fn open_since(before: &[Token<'_>], expected: &[&str], is_end: bool) -> Option<L
     }
 }
 
-/// Tells what may be missing behind tokens, where some words are expected.
+/// What may be missing after tokens, if some words are expected.
 fn missing(
     text: &str,
     before: &[Token<'_>],
@@ -167,7 +167,7 @@ fn cut<A: Allocator>(tokens: &mut Vec<Token<'_>, A>, offset: usize) {
     tokens.truncate(count);
 }
 
-/// Adds what could stand behind tokens, and gives what may be missing there.
+/// Adds what could follow tokens, and returns what may be missing there.
 fn push_missing<A: Allocator + Copy>(
     alloc: A,
     to: &mut String<A>,
@@ -181,7 +181,7 @@ fn push_missing<A: Allocator + Copy>(
     Ok(missing(text, before.as_slice(), expected.as_slice(), offset, is_end))
 }
 
-/// Adds what is meant by an unexpected token at a span, or by the end there, what could stand there, and what may be
+/// Adds what was probably meant by an unexpected token or end at a span, what could be there, and what may be
 /// missing.
 pub(crate) fn push_unexpected<A: Allocator + Copy>(
     alloc: A,

@@ -1,17 +1,17 @@
-//! The words in which a warning is told, by its name.
+//! The words of each warning, by its name.
 
-/// What is told of a warning.
+/// The texts of a warning.
 #[derive(Clone, Copy)]
 pub struct WarningWords {
-    /// What stands at its place.
+    /// What is wrong at its place.
     pub what: &'static str,
-    /// What stands before the other place that it speaks of, if it speaks of one.
+    /// The words before its other place, if it has one.
     pub besides: &'static str,
     /// What may be done.
     pub advice: &'static str,
 }
 
-/// What is told of a warning, by its name. A name that no warning has is `unknown warning`.
+/// The texts of a warning, by its name; `unknown warning` if no warning has the name.
 pub fn warning_words(name: &str) -> WarningWords {
     let (what, besides, advice) = match name {
         "endless-wait" => (
