@@ -40,7 +40,7 @@ BEGIN, END = "<!-- measured: begin -->\n", "<!-- measured: end -->\n"
 
 
 def libraries():
-    """The crates of crates.txt, each with those of them that it stands on, in the order of the file."""
+    """The crates of crates.txt, each with its dependencies among them, in the order of the file."""
     named = {}
     with open(f"{TOP}/crates.txt", encoding="utf-8") as file:
         for line in file:
@@ -156,7 +156,7 @@ def keep(row):
 
 
 def wrong_bodies(crate):
-    """How many wrong bodies of a crate the gate tries."""
+    """How many mutants of a crate the gate tries."""
     folder = f"{TOP}/crates/{crate}/must-fail"
     return len([it for it in os.listdir(folder) if it.endswith(".edit")]) if os.path.isdir(folder) else 0
 
@@ -186,7 +186,7 @@ def work_of(pid):
 
 
 def room_of(pid):
-    """The folder in which the gate tries a wrong body, for its process."""
+    """The folder in which the gate tries a mutant, for its process."""
     try:
         return re.sub(r"(/rt-edit-[^/]+)/.*", r"\1", os.readlink(f"/proc/{pid}/cwd"))
     except OSError:

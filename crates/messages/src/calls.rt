@@ -29,7 +29,7 @@ struct Called<'t> {
     caller: usize,
 }
 
-/// What is found in a function: words, a name that belongs to them, and its token.
+/// A find in a function: words, a name that belongs to them, and its token.
 #[derive(Clone, Copy)]
 struct Reason<'t> {
     words: &'static str,
@@ -118,7 +118,7 @@ fn found(words: &'static str, number: usize) -> Option<Reason<'static>> {
     })
 }
 
-/// What the token of a number is a reason for.
+/// The reason that the token at an index gives, if any.
 fn reason_at<'t>(tokens: &[Token<'t>], aim: Aim, number: usize) -> Option<Reason<'t>> {
     match (aim, kind_at(tokens, number)?) {
         (Aim::Unsafe, Kind::Keyword(Keyword::Printf)) => found("prints", number),

@@ -7,7 +7,7 @@ use std::alloc::{AllocError, Allocator};
 /// A token.
 type Candidate = Kind<'static>;
 
-/// What a token is a part of. It is not listed by itself if the whole could be there.
+/// The construct that a token is a part of. The token is not listed by itself if the whole construct could be there.
 #[derive(Clone, Copy, PartialEq, Eq)]
 enum Part {
     Nothing,

@@ -7,7 +7,7 @@ use crate::tokens::{
 };
 use lex::token::{Keyword, Kind, Punctuator, Token};
 
-/// What a token is, as far as it matters here.
+/// The classes of tokens that matter here.
 #[derive(Clone, Copy)]
 enum Class {
     /// Any token, or none.
@@ -231,7 +231,7 @@ fn of_class(kind: Option<Kind<'_>>) -> Option<&'static str> {
     None
 }
 
-/// What precedes the bracket that is closed by the token before the one at an index.
+/// The token before the bracket that is closed by the token before the one at an index.
 pub(crate) fn called_before<'t>(tokens: &[Token<'t>], number: usize) -> Option<Kind<'t>> {
     let closing = number.checked_sub(1)?;
     if !is_punctuator(kind_at(tokens, closing), Punctuator::CloseParen) {

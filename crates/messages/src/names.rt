@@ -97,7 +97,7 @@ pub(crate) fn of_call(tokens: &[Token<'_>], name: &str, number: usize) -> Option
     Some(Line::Counted((wanted, "parameter"), (given, "argument")))
 }
 
-/// What a name is declared or used as, by what follows it.
+/// The form in which a name is declared or used, by what follows it.
 #[derive(Clone, Copy)]
 enum Form {
     /// A function, a call.
@@ -108,7 +108,7 @@ enum Form {
     Plain,
 }
 
-/// What a name, the token of a number, is declared or used as.
+/// The form in which a name, the token at an index, is declared or used.
 fn form_at(tokens: &[Token<'_>], number: usize) -> Form {
     match kind_behind(tokens, number) {
         Some(Kind::Punctuator(Punctuator::OpenParen)) => Form::Function,

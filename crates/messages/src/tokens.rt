@@ -17,12 +17,12 @@ pub(crate) fn offset_at(tokens: &[Token<'_>], number: usize) -> usize {
     tokens.get(number).map_or(0, |it| it.span.start)
 }
 
-/// What the token of a number is.
+/// The kind of the token at an index.
 pub(crate) fn kind_at<'t>(tokens: &[Token<'t>], number: usize) -> Option<Kind<'t>> {
     tokens.get(number).map(|it| it.kind)
 }
 
-/// What the token so many before that of a number is.
+/// The kind of the token so many before the one at an index.
 pub(crate) fn kind_up<'t>(tokens: &[Token<'t>], number: usize, by: usize) -> Option<Kind<'t>> {
     match number.checked_sub(by) {
         Some(before) => kind_at(tokens, before),
@@ -30,12 +30,12 @@ pub(crate) fn kind_up<'t>(tokens: &[Token<'t>], number: usize, by: usize) -> Opt
     }
 }
 
-/// What the token before that of a number is.
+/// The kind of the token before the one at an index.
 pub(crate) fn kind_before<'t>(tokens: &[Token<'t>], number: usize) -> Option<Kind<'t>> {
     kind_up(tokens, number, 1)
 }
 
-/// What the token after the one at an index is.
+/// The kind of the token after the one at an index.
 pub(crate) fn kind_behind<'t>(tokens: &[Token<'t>], number: usize) -> Option<Kind<'t>> {
     kind_at(tokens, number.saturating_add(1))
 }
@@ -172,7 +172,7 @@ pub(crate) fn last_declaration(tokens: &[Token<'_>], name: &str, to: usize) -> O
     None
 }
 
-/// What is found of a name's declarations in a scope, token by token towards its beginning.
+/// The declarations of a name found so far in a scope, token by token towards its beginning.
 #[derive(Clone, Copy)]
 struct Found {
     /// The token that declares it, the first one so far.
@@ -181,7 +181,7 @@ struct Found {
     behind_comma: Option<usize>,
 }
 
-/// What is found of a name with one more token before those already searched.
+/// The declarations of a name with one more token before those already searched.
 fn found_with(tokens: &[Token<'_>], name: &str, at: usize, found: Found) -> Found {
     let before = kind_before(tokens, at);
     match kind_at(tokens, at) {
@@ -242,7 +242,7 @@ pub(crate) fn declared(tokens: &[Token<'_>], name: &str, number: usize) -> Optio
             return found;
         };
         let before = open.saturating_sub(1);
-        // What the parameters of a function declare is declared in the scope of its block.
+        // Parameters of a function are declared in the scope of its block.
         let is_body = is_punctuator(kind_at(tokens, open), Punctuator::OpenBrace)
             && is_punctuator(kind_at(tokens, before), Punctuator::CloseParen);
         if found.is_some() && !is_body {

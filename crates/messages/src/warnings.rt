@@ -3,7 +3,7 @@
 /// The texts of a warning.
 #[derive(Clone, Copy)]
 pub struct WarningWords {
-    /// What is wrong at its place.
+    /// The problem at its place.
     pub what: &'static str,
     /// The words before its other place, if it has one.
     pub besides: &'static str,

@@ -1,5 +1,5 @@
-//! Tests of what is told beside faults: first mistakes of those who write C, each with the fault and all that is told
-//! of it. In a crate of their own: a crate with tests is proved twice.
+//! Tests of hints: first mistakes of C programmers, each with its fault and all its hints. In a crate of their own,
+//! because a crate with tests is proved twice.
 #![tactic(auto)]
 
 #[cfg(test)]

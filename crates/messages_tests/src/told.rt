@@ -1,4 +1,4 @@
-//! What is told of a text.
+//! Compares the hints for a source with those of a row.
 
 use lex::token::Span;
 use lex::{lex, place};
@@ -12,10 +12,10 @@ use std::process::Abort;
 use syntax::tree::Unit;
 use types::{Typed, check};
 
-/// A source, its first fault with its place, and what is told beside it.
+/// A source, its first fault with its place, and its hints.
 pub type Row = (&'static str, &'static str, &'static str);
 
-/// Why a text is refused: the number of its first fault, and where it stands.
+/// The first fault of a text: its number and its place.
 type Refusal = (u32, Option<Span>);
 
 /// The tree of a text.
@@ -45,7 +45,7 @@ fn read_safe(alloc: Global, text: &str) -> Result<Safe, Refusal> {
     }
 }
 
-/// Why a text is refused, if it is.
+/// The first fault of a text, if it has one.
 fn refusal(alloc: Global, text: &str) -> Option<Refusal> {
     match read_safe(alloc, text) {
         Ok(safe) => match accept(alloc, safe) {
@@ -56,7 +56,7 @@ fn refusal(alloc: Global, text: &str) -> Option<Refusal> {
     }
 }
 
-/// Whether the first fault of a text is this one, and this is told beside it, which is something.
+/// Whether the first fault of a text is this one, and its hints are these, which are not empty.
 fn is_told(alloc: Global, row: &Row) -> Result<bool, AllocError> {
     let (text, fault, lines) = *row;
     let Some((number, Some(span))) = refusal(alloc, text) else {
@@ -68,7 +68,7 @@ fn is_told(alloc: Global, row: &Row) -> Result<bool, AllocError> {
     Ok(found.as_str() == fault && !lines.is_empty() && told.as_str() == lines)
 }
 
-/// The source of the first row of which something else is told.
+/// The source of the first row that has another fault or other hints.
 pub fn told_otherwise(alloc: Global, rows: &[Row]) -> Option<&'static str> {
     for row in rows {
         if !is_told(alloc, row).unwrap_or(false) {
@@ -78,7 +78,7 @@ pub fn told_otherwise(alloc: Global, rows: &[Row]) -> Option<&'static str> {
     None
 }
 
-/// Asserts that there is none that is told otherwise.
+/// Asserts that there is no such row.
 pub fn assert_none(rt: &impl Abort, other: Option<&str>) {
     assert_eq!(rt; other, None);
 }
