@@ -1,4 +1,4 @@
-// Thread 0 moves 50 in two transactions. Thread 1 counts the money, and can find that 50 are missing.
+// Thread 0 moves 50 in two transactions. Thread 1 adds up both accounts, and can find 50 missing.
 int checking = 120, savings = 40;
 
 void worker(int self) {

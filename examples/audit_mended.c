@@ -1,4 +1,4 @@
-// Thread 0 moves 50 in one transaction. Thread 1 counts the money, and finds all of it.
+// Thread 0 moves 50 in one transaction, so thread 1 always finds all of the money.
 int checking = 120, savings = 40;
 
 void worker(int self) {

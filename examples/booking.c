@@ -1,5 +1,5 @@
-// A cancel of an inner transaction undoes the inner one alone: who finds no seat in the train takes one in the bus, and what the
-// outer transaction wrote before stays. Each thread books twice.
+// A cancel undoes the innermost transaction alone: a thread that finds no seat in the train takes one in the bus, and
+// what the outer transaction wrote before is kept. Each thread books twice.
 int train = 1, bus = 9, asked, by_train, by_bus;
 
 void worker(int self) {

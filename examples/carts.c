@@ -1,4 +1,4 @@
-// A cart is built as a whole or not at all: where the wheels are too few, in the inner transaction, one cancel undoes both.
+// A cart is built as a whole or not at all: if the inner transaction finds too few wheels, one cancel undoes both.
 int frames = 3, wheels = 9, built;
 
 void worker(int self) {

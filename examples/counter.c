@@ -1,4 +1,4 @@
-// Each thread adds one, three times. No addition is lost, whatever the threads do.
+// Each thread adds one, three times. No addition is lost, however the threads interleave.
 int x;
 
 void worker(int self) {

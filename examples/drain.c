@@ -1,5 +1,5 @@
-// Threads empty a queue together. The loop's condition reads the head in a transaction of its own, and so the next one, which
-// takes a number, has to look again.
+// Threads empty a queue together. The loop condition reads the head in a transaction of its own, so the next one, which
+// takes a number, has to check again.
 int queue[2] = {7, 9}, head, total;
 
 void worker(int self) {

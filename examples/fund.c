@@ -1,4 +1,4 @@
-// Cents that no `int` holds: each payment is an eighth of what is left of the fund, and both together stay what they were.
+// Cents that no `int` can hold: each payment is an eighth of the rest of the fund, and the sum of both never changes.
 long long fund = 1234567890123, paid;
 int payments;
 

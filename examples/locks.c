@@ -1,4 +1,4 @@
-// Two locks, which thread 0 takes in one order and thread 1 in the other: each can have one and wait for the other's.
+// Two locks, which the threads take in opposite orders: each can hold one and wait for the other.
 int locked[2], done;
 
 void take(int which) {

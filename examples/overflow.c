@@ -1,4 +1,4 @@
-// A sum that leaves the range of `int` is trap 1: the thread ends, and nothing of the transaction is left.
+// A sum out of the range of `int` is trap 1: the thread ends, and its transaction is undone.
 int total = 2147483647, entries = 5;
 
 void worker(int self) {

@@ -1,5 +1,5 @@
-// Printing can't be undone, so it stands in a relaxed transaction: from its first piece on no other thread can change what is
-// shared, and the numbers on the receipt are those of one moment.
+// Printing can't be undone, so it needs a relaxed transaction: from the first `printf` on no other thread can change
+// shared data, and the numbers on the receipt belong together.
 int sold, left = 10;
 
 void worker(int self) {

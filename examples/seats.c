@@ -1,4 +1,4 @@
-// One seat and two buyers. Each looks first and buys then, in two transactions: the seat can be sold twice.
+// One seat and two buyers, who check and buy in two transactions: the seat can be sold twice.
 int seats = 1, sold;
 
 void worker(int self) {

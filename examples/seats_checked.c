@@ -1,4 +1,4 @@
-// As seats.c, with what has to hold: where the seat is sold twice, a division by 0 ends the thread.
+// As seats.c, with a check: if the seat is sold twice, a division by 0 ends the thread.
 int seats = 1, sold;
 
 void worker(int self) {

@@ -1,4 +1,4 @@
-// One seat and two buyers, each of whom looks and buys in one transaction: the seat is sold once.
+// One seat and two buyers, who check and buy in one transaction: the seat is sold once.
 int seats = 1, sold;
 
 void worker(int self) {

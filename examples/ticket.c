@@ -1,5 +1,5 @@
-// A ticket lock made of transactions: each thread takes a number, waits in a loop until it is served, and enters twice. What is
-// counted inside is the most threads that were there at one time.
+// A ticket lock made of transactions: each thread takes a number, waits in a loop until it is served, and enters twice.
+// `most` is the largest number of threads that were inside at one time.
 int next, serving, inside, most, entered;
 
 void worker(int self) {

@@ -1,4 +1,4 @@
-// What is asked may trap, as where it divides by a number that is 0, or may never end.
+// A property may trap, for example by a division by 0, or may never end.
 int sum, count, steps = 1;
 
 int average_is_small(void) { return sum / count < 10; }

@@ -1,4 +1,4 @@
-// Money is taken in one transaction and put in the next: between the two it is nowhere. In the end nothing is lost.
+// Money leaves one account in one transaction and enters the next one in another: in between it is missing.
 int account[3] = {20, 20, 20};
 
 int kept(void) {

@@ -1,4 +1,4 @@
-// A lock made of transactions: a thread tests it and takes it in one. Inside it counts itself in, and out again.
+// A lock made of transactions: one transaction tests it and takes it. Inside, a thread counts itself in and out.
 int taken, inside, entered;
 
 int alone(void) { return inside <= 1; }

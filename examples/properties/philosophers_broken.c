@@ -1,4 +1,4 @@
-// Philosophers who take the left fork in one transaction and the right one in the next: each may have one and wait for ever.
+// Philosophers who take the left fork in one transaction and the right one in the next: each may hold one and wait.
 int taken[3], eating[3], meals;
 
 int neighbours_wait(void) {

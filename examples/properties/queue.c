@@ -1,4 +1,4 @@
-// A queue of two places: even threads put three numbers into it, odd ones take three. Who finds no place or no number waits.
+// A queue of two places: even threads put in three numbers, odd ones take three. Threads wait for a place or a number.
 int slots[2], head, count, sum;
 
 int within(void) { return count >= 0 && count <= 2; }

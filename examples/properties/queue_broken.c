@@ -1,4 +1,4 @@
-// The place is looked for in one transaction and filled in the next: two threads may fill the last one.
+// One transaction checks for a free place and the next one fills it: two threads may fill the last one.
 int slots[2], head, count, sum;
 
 int within(void) { return count >= 0 && count <= 2; }

@@ -1,4 +1,4 @@
-// Two seats, and buyers who look and buy in one transaction: no seat is sold twice.
+// Two seats, and buyers who check and buy in one transaction: no seat is sold twice.
 int seats = 2, buyer[2] = {-1, -1}, sold;
 
 int no_seat_twice(void) { return sold + seats == 2 && seats >= 0; }

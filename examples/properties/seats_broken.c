@@ -1,4 +1,4 @@
-// Two seats, and buyers who look in one transaction and buy in the next: with three of them a seat is sold that is not there.
+// Two seats, and buyers who check in one transaction and buy in the next: three of them can buy three seats.
 int seats = 2, sold;
 
 int no_seat_twice(void) { return sold + seats == 2 && seats >= 0; }

@@ -12,37 +12,37 @@ type Row = (&'static str, u32, &'static str, &'static [u64]);
 fn examples() -> &'static [Row] {
     static EXAMPLES: [Row; 21] = [
         (
-            "// Thread 0 moves 50 in two transactions. Thread 1 counts the money, and can find that 50 are missing.\nint checking = 120, savings = 40;\n\nvoid worker(int self) {\n    int total;\n    if (self == 0) {\n        __transaction_atomic { checking = checking - 50; }\n        __transaction_atomic { savings = savings + 50; }\n    } else {\n        __transaction_atomic { total = checking + savings; }\n        printf(\"%d\\n\", total);\n    }\n}\n",
+            "// Thread 0 moves 50 in two transactions. Thread 1 adds up both accounts, and can find 50 missing.\nint checking = 120, savings = 40;\n\nvoid worker(int self) {\n    int total;\n    if (self == 0) {\n        __transaction_atomic { checking = checking - 50; }\n        __transaction_atomic { savings = savings + 50; }\n    } else {\n        __transaction_atomic { total = checking + savings; }\n        printf(\"%d\\n\", total);\n    }\n}\n",
             0,
             "",
             &[70, 90],
         ),
         (
-            "// Thread 0 moves 50 in one transaction. Thread 1 counts the money, and finds all of it.\nint checking = 120, savings = 40;\n\nvoid worker(int self) {\n    int total;\n    if (self == 0) {\n        __transaction_atomic {\n            checking = checking - 50;\n            savings = savings + 50;\n        }\n    } else {\n        __transaction_atomic { total = checking + savings; }\n        printf(\"%d\\n\", total);\n    }\n}\n",
+            "// Thread 0 moves 50 in one transaction, so thread 1 always finds all of the money.\nint checking = 120, savings = 40;\n\nvoid worker(int self) {\n    int total;\n    if (self == 0) {\n        __transaction_atomic {\n            checking = checking - 50;\n            savings = savings + 50;\n        }\n    } else {\n        __transaction_atomic { total = checking + savings; }\n        printf(\"%d\\n\", total);\n    }\n}\n",
             0,
             "",
             &[70, 90],
         ),
         (
-            "// A cancel of an inner transaction undoes the inner one alone: who finds no seat in the train takes one in the bus, and what the\n// outer transaction wrote before stays. Each thread books twice.\nint train = 1, bus = 9, asked, by_train, by_bus;\n\nvoid worker(int self) {\n    int i;\n    for (i = 0; i < 2; i++) {\n        __transaction_atomic {\n            int seated = 0;\n            asked = asked + 1;\n            __transaction_atomic {\n                train = train - 1;\n                by_train = by_train + 1;\n                if (train < 0) __transaction_cancel;\n                seated = 1;\n            }\n            if (!seated) {\n                bus = bus - 1;\n                by_bus = by_bus + 1;\n            }\n        }\n    }\n}\n",
+            "// A cancel undoes the innermost transaction alone: a thread that finds no seat in the train takes one in the bus, and\n// what the outer transaction wrote before is kept. Each thread books twice.\nint train = 1, bus = 9, asked, by_train, by_bus;\n\nvoid worker(int self) {\n    int i;\n    for (i = 0; i < 2; i++) {\n        __transaction_atomic {\n            int seated = 0;\n            asked = asked + 1;\n            __transaction_atomic {\n                train = train - 1;\n                by_train = by_train + 1;\n                if (train < 0) __transaction_cancel;\n                seated = 1;\n            }\n            if (!seated) {\n                bus = bus - 1;\n                by_bus = by_bus + 1;\n            }\n        }\n    }\n}\n",
             0,
             "",
             &[0, 8, 2, 1, 1],
         ),
         (
-            "// A cart is built as a whole or not at all: where the wheels are too few, in the inner transaction, one cancel undoes both.\nint frames = 3, wheels = 9, built;\n\nvoid worker(int self) {\n    int i;\n    for (i = 0; i < 3; i++) {\n        __transaction_atomic [[outer]] {\n            frames = frames - 1;\n            __transaction_atomic {\n                wheels = wheels - 4;\n                if (wheels < 0) __transaction_cancel [[outer]];\n            }\n            built = built + 1;\n        }\n    }\n}\n",
+            "// A cart is built as a whole or not at all: if the inner transaction finds too few wheels, one cancel undoes both.\nint frames = 3, wheels = 9, built;\n\nvoid worker(int self) {\n    int i;\n    for (i = 0; i < 3; i++) {\n        __transaction_atomic [[outer]] {\n            frames = frames - 1;\n            __transaction_atomic {\n                wheels = wheels - 4;\n                if (wheels < 0) __transaction_cancel [[outer]];\n            }\n            built = built + 1;\n        }\n    }\n}\n",
             0,
             "",
             &[1, 1, 2],
         ),
         (
-            "// Each thread adds one, three times. No addition is lost, whatever the threads do.\nint x;\n\nvoid worker(int self) {\n    int i;\n    for (i = 0; i < 3; i++) {\n        __transaction_atomic { x = x + 1; }\n    }\n}\n",
+            "// Each thread adds one, three times. No addition is lost, however the threads interleave.\nint x;\n\nvoid worker(int self) {\n    int i;\n    for (i = 0; i < 3; i++) {\n        __transaction_atomic { x = x + 1; }\n    }\n}\n",
             0,
             "",
             &[3],
         ),
         (
-            "// Threads empty a queue together. The loop's condition reads the head in a transaction of its own, and so the next one, which\n// takes a number, has to look again.\nint queue[2] = {7, 9}, head, total;\n\nvoid worker(int self) {\n    int taken = 0;\n    while (__transaction_atomic (head) < 2) {\n        __transaction_atomic {\n            if (head < 2) {\n                total = total + queue[head];\n                head++;\n                taken++;\n            }\n        }\n    }\n    printf(\"%d taken, %d left\\n\", taken, 2 - __transaction_atomic (head));\n}\n",
+            "// Threads empty a queue together. The loop condition reads the head in a transaction of its own, so the next one, which\n// takes a number, has to check again.\nint queue[2] = {7, 9}, head, total;\n\nvoid worker(int self) {\n    int taken = 0;\n    while (__transaction_atomic (head) < 2) {\n        __transaction_atomic {\n            if (head < 2) {\n                total = total + queue[head];\n                head++;\n                taken++;\n            }\n        }\n    }\n    printf(\"%d taken, %d left\\n\", taken, 2 - __transaction_atomic (head));\n}\n",
             0,
             "2 taken, 0 left\n",
             &[7, 9, 2, 16],
@@ -54,7 +54,7 @@ fn examples() -> &'static [Row] {
             &[42, 41],
         ),
         (
-            "// Cents that no `int` holds: each payment is an eighth of what is left of the fund, and both together stay what they were.\nlong long fund = 1234567890123, paid;\nint payments;\n\nvoid worker(int self) {\n    int i;\n    for (i = 0; i < 3; i++) {\n        long long part;\n        __transaction_atomic {\n            part = fund / 8;\n            fund = fund - part;\n            paid = paid + part;\n            payments++;\n        }\n        printf(\"%lld dollars, %d cents\\n\", part / 100, (int)(part % 100));\n    }\n}\n",
+            "// Cents that no `int` can hold: each payment is an eighth of the rest of the fund, and the sum of both never changes.\nlong long fund = 1234567890123, paid;\nint payments;\n\nvoid worker(int self) {\n    int i;\n    for (i = 0; i < 3; i++) {\n        long long part;\n        __transaction_atomic {\n            part = fund / 8;\n            fund = fund - part;\n            paid = paid + part;\n            payments++;\n        }\n        printf(\"%lld dollars, %d cents\\n\", part / 100, (int)(part % 100));\n    }\n}\n",
             0,
             "1543209862 dollars, 65 cents\n1350308629 dollars, 82 cents\n1181520051 dollars, 9 cents\n",
             &[827064035767, 407503854356, 3],
@@ -66,13 +66,13 @@ fn examples() -> &'static [Row] {
             &[0, 0, 0, 0, 0, 3, 0, 1, 0, 0, 0, 0, 4, 0, 2, 0, 4],
         ),
         (
-            "// Two locks, which thread 0 takes in one order and thread 1 in the other: each can have one and wait for the other's.\nint locked[2], done;\n\nvoid take(int which) {\n    int mine = 0;\n    while (!mine) {\n        __transaction_atomic { mine = !locked[which]; if (mine) locked[which] = 1; }\n    }\n}\n\nvoid worker(int self) {\n    take(self);\n    take(1 - self);\n    __transaction_atomic { done = done + 1; locked[0] = 0; locked[1] = 0; }\n}\n",
+            "// Two locks, which the threads take in opposite orders: each can hold one and wait for the other.\nint locked[2], done;\n\nvoid take(int which) {\n    int mine = 0;\n    while (!mine) {\n        __transaction_atomic { mine = !locked[which]; if (mine) locked[which] = 1; }\n    }\n}\n\nvoid worker(int self) {\n    take(self);\n    take(1 - self);\n    __transaction_atomic { done = done + 1; locked[0] = 0; locked[1] = 0; }\n}\n",
             0,
             "",
             &[0, 0, 1],
         ),
         (
-            "// A sum that leaves the range of `int` is trap 1: the thread ends, and nothing of the transaction is left.\nint total = 2147483647, entries = 5;\n\nvoid worker(int self) {\n    __transaction_atomic {\n        entries = entries + 1;\n        total = total + 1;\n    }\n}\n",
+            "// A sum out of the range of `int` is trap 1: the thread ends, and its transaction is undone.\nint total = 2147483647, entries = 5;\n\nvoid worker(int self) {\n    __transaction_atomic {\n        entries = entries + 1;\n        total = total + 1;\n    }\n}\n",
             1,
             "",
             &[2147483647, 5],
@@ -90,25 +90,25 @@ fn examples() -> &'static [Row] {
             &[1, 4, 9, 16, 0, 0, 2],
         ),
         (
-            "// Printing can't be undone, so it stands in a relaxed transaction: from its first piece on no other thread can change what is\n// shared, and the numbers on the receipt are those of one moment.\nint sold, left = 10;\n\nvoid worker(int self) {\n    __transaction_relaxed {\n        sold = sold + 1;\n        left = left - 1;\n        printf(\"ticket %d, %d left\\n\", sold, left);\n    }\n}\n",
+            "// Printing can't be undone, so it needs a relaxed transaction: from the first `printf` on no other thread can change\n// shared data, and the numbers on the receipt belong together.\nint sold, left = 10;\n\nvoid worker(int self) {\n    __transaction_relaxed {\n        sold = sold + 1;\n        left = left - 1;\n        printf(\"ticket %d, %d left\\n\", sold, left);\n    }\n}\n",
             0,
             "ticket 1, 9 left\n",
             &[1, 9],
         ),
         (
-            "// One seat and two buyers. Each looks first and buys then, in two transactions: the seat can be sold twice.\nint seats = 1, sold;\n\nvoid worker(int self) {\n    int free;\n    __transaction_atomic { free = seats > 0; }\n    if (free) {\n        __transaction_atomic {\n            seats = seats - 1;\n            sold = sold + 1;\n        }\n    }\n}\n",
+            "// One seat and two buyers, who check and buy in two transactions: the seat can be sold twice.\nint seats = 1, sold;\n\nvoid worker(int self) {\n    int free;\n    __transaction_atomic { free = seats > 0; }\n    if (free) {\n        __transaction_atomic {\n            seats = seats - 1;\n            sold = sold + 1;\n        }\n    }\n}\n",
             0,
             "",
             &[0, 1],
         ),
         (
-            "// As seats.c, with what has to hold: where the seat is sold twice, a division by 0 ends the thread.\nint seats = 1, sold;\n\nvoid worker(int self) {\n    int free;\n    __transaction_atomic { free = seats > 0; }\n    if (free) {\n        __transaction_atomic {\n            seats = seats - 1;\n            sold = sold + 1;\n            free = 1 / (sold <= 1);\n        }\n    }\n}\n",
+            "// As seats.c, with a check: if the seat is sold twice, a division by 0 ends the thread.\nint seats = 1, sold;\n\nvoid worker(int self) {\n    int free;\n    __transaction_atomic { free = seats > 0; }\n    if (free) {\n        __transaction_atomic {\n            seats = seats - 1;\n            sold = sold + 1;\n            free = 1 / (sold <= 1);\n        }\n    }\n}\n",
             0,
             "",
             &[0, 1],
         ),
         (
-            "// One seat and two buyers, each of whom looks and buys in one transaction: the seat is sold once.\nint seats = 1, sold;\n\nvoid worker(int self) {\n    __transaction_atomic {\n        if (seats > 0) {\n            seats = seats - 1;\n            sold = sold + 1;\n        }\n    }\n}\n",
+            "// One seat and two buyers, who check and buy in one transaction: the seat is sold once.\nint seats = 1, sold;\n\nvoid worker(int self) {\n    __transaction_atomic {\n        if (seats > 0) {\n            seats = seats - 1;\n            sold = sold + 1;\n        }\n    }\n}\n",
             0,
             "",
             &[0, 1],
@@ -120,7 +120,7 @@ fn examples() -> &'static [Row] {
             &[5],
         ),
         (
-            "// A ticket lock made of transactions: each thread takes a number, waits in a loop until it is served, and enters twice. What is\n// counted inside is the most threads that were there at one time.\nint next, serving, inside, most, entered;\n\nvoid worker(int self) {\n    int i, mine, mine_now;\n    for (i = 0; i < 2; i++) {\n        __transaction_atomic { mine = next; next = next + 1; }\n        do {\n            __transaction_atomic { mine_now = serving == mine; }\n        } while (!mine_now);\n        __transaction_atomic { inside = inside + 1; if (inside > most) most = inside; }\n        __transaction_atomic { inside = inside - 1; entered = entered + 1; serving = serving + 1; }\n    }\n}\n",
+            "// A ticket lock made of transactions: each thread takes a number, waits in a loop until it is served, and enters twice.\n// `most` is the largest number of threads that were inside at one time.\nint next, serving, inside, most, entered;\n\nvoid worker(int self) {\n    int i, mine, mine_now;\n    for (i = 0; i < 2; i++) {\n        __transaction_atomic { mine = next; next = next + 1; }\n        do {\n            __transaction_atomic { mine_now = serving == mine; }\n        } while (!mine_now);\n        __transaction_atomic { inside = inside + 1; if (inside > most) most = inside; }\n        __transaction_atomic { inside = inside - 1; entered = entered + 1; serving = serving + 1; }\n    }\n}\n",
             0,
             "",
             &[2, 2, 0, 1, 2],
