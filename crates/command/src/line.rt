@@ -23,7 +23,7 @@ fn file<'a>(alloc: Global) -> Arg<'a>
     Arg::new(alloc, "FILE")
         .required(true)
         .action(ArgAction::Set)
-        .help("A C source with transactions")
+        .help("C program to read, or - for standard input")
 }
 
 /// A flag.
@@ -49,7 +49,7 @@ fn text<'a>(alloc: Global, name: &'a str, value: &'a str, help: &'a str) -> Arg<
         .help(help)
 }
 
-/// An option that has to be given, with a value.
+/// A required option with a value.
 fn wanted<'a>(alloc: Global, name: &'a str, value: &'a str, help: &'a str) -> Arg<'a>
     ensures rule { rule_of result ≡ wanted_rule name.entry.now }
     ensures global { result.global ≡ false }
@@ -57,7 +57,7 @@ fn wanted<'a>(alloc: Global, name: &'a str, value: &'a str, help: &'a str) -> Ar
     text(alloc, name, value, help).required(true)
 }
 
-/// The order of threads.
+/// The order of transactions, by their threads.
 fn order<'a>(alloc: Global) -> Arg<'a>
     ensures rule { rule_of result ≡ text_rule (codes "order") }
     ensures global { result.global ≡ false }
@@ -66,11 +66,11 @@ fn order<'a>(alloc: Global) -> Arg<'a>
         alloc,
         "order",
         "LIST",
-        "Whose turn it is, turn by turn: thread numbers joined by commas, or an empty word",
+        "Order of transactions: thread numbers joined by commas, as 0,1,0, or an empty word",
     )
 }
 
-/// The order of threads that a run of the source wants.
+/// The order of transactions, which a run of the source needs.
 fn order_wanted<'a>(alloc: Global) -> Arg<'a>
     ensures rule { rule_of result ≡ order_rule }
     ensures global { result.global ≡ false }
@@ -78,7 +78,7 @@ fn order_wanted<'a>(alloc: Global) -> Arg<'a>
     order(alloc).required(true)
 }
 
-/// A command with what is said of it.
+/// A command with its description and an example.
 fn command_of<'a>(alloc: Global, name: &'a str, about: &'a str, example: &'a str) -> Command<'a>
     ensures { IsMade (new_app name.entry.now) result }
 {
@@ -103,7 +103,7 @@ fn with<'a>(
     }
 }
 
-/// Whether more is told.
+/// Whether to show more than the first line.
 fn verbose<'a>(alloc: Global) -> Arg<'a>
     ensures rule { rule_of result ≡ flag_rule (codes "verbose") }
     ensures global { result.global ≡ false }
@@ -111,11 +111,11 @@ fn verbose<'a>(alloc: Global) -> Arg<'a>
     flag(
         alloc,
         "verbose",
-        "Shows the line of a fault and where threads stand that trapped or go no further, and says why a file can't be read",
+        "Show source lines of faults, and where threads trapped or stopped [default on a terminal], and why a file can't be read",
     )
 }
 
-/// How faults are told.
+/// How to report faults.
 fn format<'a>(alloc: Global) -> Arg<'a>
     ensures rule { rule_of result ≡ text_rule (codes "format") }
     ensures global { result.global ≡ false }
@@ -124,7 +124,7 @@ fn format<'a>(alloc: Global) -> Arg<'a>
         alloc,
         "format",
         "HOW",
-        "How a fault is told, in one line: short is FILE:LINE:COL: error: WORDS [NN], for editors, json an object",
+        "Report each fault on one line: short is FILE:LINE:COL: error: WORDS [NN], for editors; json is an object",
     )
 }
 
@@ -142,26 +142,26 @@ fn of_file<'a>(
     with(command, format(alloc))
 }
 
-/// The command that says whether a program is accepted.
+/// The command that checks a program.
 fn check<'a>(alloc: Global) -> Result<Command<'a>, AllocError>
     ensures { IfOk result (IsMade check_app) }
 {
     let command = of_file(
         alloc,
         "check",
-        "Says whether a program is accepted",
+        "Check a program for errors and suspicious code, without running it",
         "Example:\n  txc check first.c --warn",
     );
     let warn = flag(
         alloc,
         "warn",
-        "Warns of what an accepted program hardly means, as on a terminal",
+        "Print warnings about suspicious code [default on a terminal]",
     );
     let command = with(command, warn);
     let all = flag(
         alloc,
         "all",
-        "Tells up to 20 faults of names, types and transactions, as on a terminal",
+        "Report up to 20 faults of names, types and transactions, not only the first [default on a terminal]",
     );
     with(command, all)
 }
@@ -173,7 +173,7 @@ fn listing<'a>(alloc: Global) -> Result<Command<'a>, AllocError>
     of_file(
         alloc,
         "listing",
-        "Prints the register code of a program",
+        "Print the instructions that a program is compiled to",
         "Example:\n  txc listing first.c",
     )
 }
@@ -187,7 +187,7 @@ fn threads<'a>(alloc: Global) -> Arg<'a>
         alloc,
         "threads",
         "T",
-        "How many threads there are: 1 to 64, and 1 if not given",
+        "Number of threads, 1 to 64 [default: 1]",
     )
 }
 
@@ -198,7 +198,7 @@ fn run<'a>(alloc: Global) -> Result<Command<'a>, AllocError>
     let command = of_file(
         alloc,
         "run",
-        "Runs all threads of a program at once, and prints their ends, their output and the globals",
+        "Run a program on real threads, and print how each ended, its output and the final globals",
         "Example:\n  txc run bank.c --threads 4",
     );
     let command = with(command, threads(alloc));
@@ -206,32 +206,32 @@ fn run<'a>(alloc: Global) -> Result<Command<'a>, AllocError>
         alloc,
         "budget",
         "B",
-        "How many steps each thread makes at most: 0 to 4294967295, and that if not given",
+        "Limit on the steps of each thread, 0 to 4294967295 [default: 4294967295]",
     );
     let command = with(command, budget);
     let counts = flag(
         alloc,
         "counts",
-        "Tells the steps, accesses, transactions, drops and retries of each thread behind the report, on standard error",
+        "Print how many steps, shared accesses, transactions, aborted attempts and retries each thread made, on standard error",
     );
     let command = with(command, counts);
     let memory = text(
         alloc,
         "memory",
         "MB",
-        "How much memory output and logs of all threads take at most: 0 to 4294967295 MB, and that if not given",
+        "Limit on the memory for output and transaction logs, in MB, 0 to 4294967295 [default: 4294967295]",
     );
     with(command, memory)
 }
 
-/// The command that replays steps of the machine, with where these come from.
+/// The command that replays single steps, with the options that name them.
 fn replay_steps<'a>(alloc: Global) -> Result<Command<'a>, AllocError>
     ensures { IfOk result (IsMade replay_steps_app) }
 {
     let command = of_file(
         alloc,
         "replay",
-        "Makes the steps of the machine that a schedule, a seed or an order names, and prints what happened in them and what they leave",
+        "Replay a schedule of single steps, and print its events and final state",
         "Example:\n  txc replay counter.c --threads 2 --seed 7",
     );
     let command = with(command, threads(alloc));
@@ -239,27 +239,27 @@ fn replay_steps<'a>(alloc: Global) -> Result<Command<'a>, AllocError>
         alloc,
         "schedule",
         "S",
-        "A file with a schedule: lines `T COUNT`, steps of thread T, or `T aCOUNT`, its steps up to so many accesses",
+        "File with the schedule: lines `T COUNT`, for COUNT steps of thread T, or `T aCOUNT`, for steps up to COUNT shared accesses",
     );
     let command = with(command, schedule);
     let seed = text(
         alloc,
         "seed",
         "N",
-        "Picks the thread of each step by chance, in place of a schedule: 0 to 4294967295",
+        "Replay a random schedule, the same for the same number, 0 to 4294967295",
     );
     let command = with(command, seed);
     let steps = text(
         alloc,
         "steps",
         "K",
-        "How many steps are picked: 0 to 1048576, and 100000 if not given",
+        "Length of the random schedule in steps, 0 to 1048576 [default: 100000]",
     );
     let command = with(command, steps);
     with(command, order(alloc))
 }
 
-/// The command that replays steps of the machine.
+/// The command that replays single steps.
 fn replay<'a>(alloc: Global) -> Result<Command<'a>, AllocError>
     ensures { IfOk result (IsMade replay_app) }
 {
@@ -267,38 +267,38 @@ fn replay<'a>(alloc: Global) -> Result<Command<'a>, AllocError>
     let timeline = flag(
         alloc,
         "timeline",
-        "Shows each step, a line each, before the report",
+        "Print every step, one a line, before the report",
     );
     let command = with(command, timeline);
     let picture = flag(
         alloc,
         "picture",
-        "Draws the steps as one SVG, in place of the report",
+        "Draw the steps as an SVG picture, in place of the report",
     );
     let command = with(command, picture);
     let from = text(
         alloc,
         "from",
         "N",
-        "Which access is the first to be drawn, where a picture does not hold all: 0 to 1048576",
+        "First shared access to draw, 0 to 1048576; a picture shows 400 [default: 0]",
     );
     let command = with(command, from);
     let print_schedule = flag(
         alloc,
         "print-schedule",
-        "Prints the steps of the seed or of the order as a schedule, in place of the report",
+        "Print the steps of --seed or --order as a schedule, in place of the report",
     );
     with(command, print_schedule)
 }
 
-/// The command that runs the source in an order of threads.
+/// The command that runs the source in an order of transactions.
 fn source<'a>(alloc: Global) -> Result<Command<'a>, AllocError>
     ensures { IfOk result (IsMade source_app) }
 {
     let command = of_file(
         alloc,
         "source",
-        "Runs the source itself, transaction by transaction, in the order of threads that is given",
+        "Run the source one whole transaction at a time, in a given order of threads",
         "Example:\n  txc source first.c --threads 2 --order 0,1",
     );
     let command = with(command, threads(alloc));
@@ -315,18 +315,18 @@ fn ticks<'a>(alloc: Global) -> Arg<'a>
         alloc,
         "ticks",
         "N",
-        "How many ticks each thread has: 0 to 1000000, and 100000 if not given",
+        "Limit on the ticks of each thread (statements, loop iterations, calls), 0 to 1000000 [default: 100000]",
     )
 }
 
-/// The command that lists the outcomes of all orders, with how many states it looks at.
+/// The command that lists all outcomes, with its limits and the options that compare outcomes.
 fn outcome_states<'a>(alloc: Global) -> Result<Command<'a>, AllocError>
     ensures { IfOk result (IsMade outcome_states_app) }
 {
     let command = of_file(
         alloc,
         "outcomes",
-        "Lists what can come out of a program: each outcome once, with an order of threads that gives it, and deadlocks",
+        "List every possible outcome of a program, each with an order of transactions that leads to it, and deadlocks",
         "Example:\n  txc outcomes counter.c --threads 2",
     );
     let command = with(command, threads(alloc));
@@ -334,40 +334,40 @@ fn outcome_states<'a>(alloc: Global) -> Result<Command<'a>, AllocError>
         alloc,
         "steps",
         "N",
-        "How many steps of its code a thread makes in one turn: 0 to 4294967295, and 1000000 if not given",
+        "Limit on the steps of a transaction and the code after it, 0 to 4294967295 [default: 1000000]",
     );
     let command = with(command, steps);
     let limit = text(
         alloc,
         "limit",
         "L",
-        "How many states are looked at before it stops: 0 to 4294967295, and 1000000 if not given",
+        "Limit on the number of states explored, 0 to 4294967295 [default: 1000000]",
     );
     let command = with(command, limit);
     let memory = text(
         alloc,
         "memory",
         "MB",
-        "How much memory states and list take before it stops: 0 to 4294967295 MB, and 1024 if not given",
+        "Limit on the memory for states and list, in MB, 0 to 4294967295 [default: 1024]",
     );
     let command = with(command, memory);
     let refines = text(
         alloc,
         "refines",
         "B",
-        "Another C source: says whether each outcome of FILE is one of its, by texts, ends and globals, and else the first that is none",
+        "Check that each outcome of FILE is one of the program B too, in place of the list; if not, print one that is not",
     );
     let command = with(command, refines);
     let expect = text(
         alloc,
         "expect",
         "LIST",
-        "A file with a list of outcomes: says whether that of FILE is the same, byte for byte, and else where it differs",
+        "Check that the list is the text of the file LIST, byte for byte; if not, print the first line that differs",
     );
     with(command, expect)
 }
 
-/// The command that lists the outcomes of all orders.
+/// The command that lists all outcomes.
 fn outcomes<'a>(alloc: Global) -> Result<Command<'a>, AllocError>
     ensures { IfOk result (IsMade outcomes_app) }
 {
@@ -376,14 +376,14 @@ fn outcomes<'a>(alloc: Global) -> Result<Command<'a>, AllocError>
         alloc,
         "always",
         "NAMES",
-        "Asks in place of the list whether functions `int NAME(void)` of the file hold in every state: names joined by commas",
+        "Check that functions `int NAME(void)` of FILE return nonzero in every state, in place of the list; names are joined by commas",
     );
     let command = with(command, always);
     let last = text(
         alloc,
         "final",
         "NAMES",
-        "Asks likewise whether functions hold in every outcome",
+        "Check that functions return nonzero in every outcome, in place of the list",
     );
     with(command, last)
 }
@@ -395,7 +395,7 @@ fn certify<'a>(alloc: Global) -> Result<Command<'a>, AllocError>
     let command = of_file(
         alloc,
         "certify",
-        "Says whether a report is what the source prints in an order of threads, byte for byte, and else where it differs",
+        "Check that a report is what the source prints in a given order of transactions, byte for byte",
         "Example:\n  txc certify bank.c --threads 4 --order-file order --report report",
     );
     let command = with(command, threads(alloc));
@@ -403,16 +403,16 @@ fn certify<'a>(alloc: Global) -> Result<Command<'a>, AllocError>
         alloc,
         "order-file",
         "S",
-        "A file that says whose turn it is, turn by turn: thread numbers between commas, blanks or ends of lines",
+        "File with the order of transactions: thread numbers between commas, blanks or line ends",
     );
     let command = with(command, order);
-    let report = wanted(alloc, "report", "R", "A file with the report");
+    let report = wanted(alloc, "report", "R", "File with the report to check");
     let command = with(command, report);
     let ticks = text(
         alloc,
         "ticks",
         "N",
-        "How many ticks each thread has: 0 to 4294967295, and that if not given",
+        "Limit on the ticks of each thread (statements, loop iterations, calls), 0 to 4294967295 [default: 4294967295]",
     );
     with(command, ticks)
 }
@@ -426,7 +426,7 @@ fn fault<'a>(alloc: Global) -> Arg<'a>
         .required(true)
         .action(ArgAction::Set)
         .help(
-            "The number of a fault, as txc tells it, or trap, budget, spent, waits, running or stop",
+            "Number of a fault, or the word that a report has for a thread's end: trap, budget, spent, waits, running or stop",
         )
 }
 
@@ -437,31 +437,31 @@ fn trap<'a>(alloc: Global) -> Arg<'a>
 {
     Arg::new(alloc, "N")
         .action(ArgAction::Set)
-        .help("The number of a trap, behind trap")
+        .help("Number of the trap, after the word trap")
 }
 
-/// The command that tells what a fault means, or the end of a thread.
+/// The command that explains a fault or the end of a thread.
 fn explain<'a>(alloc: Global) -> Result<Command<'a>, AllocError>
     ensures { IfOk result (IsMade explain_app) }
 {
     let command = command_of(
         alloc,
         "explain",
-        "Says what a fault means, or a thread's end, with an example",
+        "Explain a fault (an error that txc reports) or how a thread ended, with an example",
         "Examples:\n  txc explain 20\n  txc explain trap 3",
     );
     let command = with(Ok(command), fault(alloc));
     with(command, trap(alloc))
 }
 
-/// The program, which wants a command.
+/// The program, which needs a command.
 fn commandless<'a>(alloc: Global) -> Command<'a>
     ensures { app_of result ≡ commandless_app }
 {
     command_of(
         alloc,
         "txc",
-        "A compiler and a machine for C programs with transactions",
+        "Find concurrency bugs in C programs with transactions, and run these programs",
         "Example:\n  txc run first.c",
     )
     .version(VERSION)
@@ -485,7 +485,7 @@ fn with_made<'a>(
     }
 }
 
-/// A program that was made, with one more command that was to be made.
+/// A program that was made, with one more command unless making it failed.
 fn with_command<'a>(
     program: Result<Command<'a>, AllocError>,
     command: Result<Command<'a>, AllocError>,

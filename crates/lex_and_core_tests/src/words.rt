@@ -807,28 +807,33 @@ fn helps(rt: HostRuntime) {
     assert_that(&rt, has(rt.alloc(), "txc|--help", HELP, ""));
 }
 
-/// The ranges that the help of each command tells, as its numbers are taken.
+/// The ranges and defaults that the help of each command gives, as its numbers are taken.
 fn told_ranges() -> &'static [(&'static str, &'static str)] {
-    static ROWS: [(&str, &str); 11] = [
-        ("txc|run|--help", "1 to 64, and 1 if not given"),
-        ("txc|run|--help", "0 to 4294967295"),
-        ("txc|replay|--help", "1 to 64, and 1 if not given"),
+    static ROWS: [(&str, &str); 13] = [
+        ("txc|run|--help", "1 to 64 [default: 1]"),
+        ("txc|run|--help", "0 to 4294967295 [default: 4294967295]"),
+        ("txc|replay|--help", "1 to 64 [default: 1]"),
         ("txc|replay|--help", "0 to 4294967295"),
-        ("txc|replay|--help", "0 to 1048576, and 100000 if not given"),
-        ("txc|source|--help", "1 to 64, and 1 if not given"),
-        ("txc|source|--help", "0 to 1000000, and 100000 if not given"),
-        ("txc|outcomes|--help", "1 to 64, and 1 if not given"),
+        ("txc|replay|--help", "0 to 1048576 [default: 100000]"),
+        (
+            "txc|replay|--help",
+            "0 to 1048576; a picture shows 400 [default: 0]",
+        ),
+        ("txc|source|--help", "1 to 64 [default: 1]"),
+        ("txc|source|--help", "0 to 1000000 [default: 100000]"),
+        ("txc|outcomes|--help", "1 to 64 [default: 1]"),
         (
             "txc|outcomes|--help",
-            "in one turn: 0 to 4294967295, and 1000000 if not given",
+            "the code after it, 0 to 4294967295 [default: 1000000]",
         ),
         (
             "txc|outcomes|--help",
-            "before it stops: 0 to 4294967295, and 1000000 if not given",
+            "states explored, 0 to 4294967295 [default: 1000000]",
         ),
+        ("txc|outcomes|--help", "0 to 4294967295 [default: 1024]"),
         (
             "txc|certify|--help",
-            "0 to 4294967295, and that if not given",
+            "0 to 4294967295 [default: 4294967295]",
         ),
     ];
     &ROWS

@@ -299,6 +299,6 @@ fn begins_with<H: Threads + Wait + Clock + Sync>(
 #[test]
 fn help_is_printed(rt: HostRuntime) {
     let alloc = rt.alloc();
-    assert!(rt; begins_with(&rt, alloc, "txc source --help", b"Runs the source itself"));
+    assert!(rt; begins_with(&rt, alloc, "txc source --help", b"Run the source one"));
     assert!(rt; begins_with(&rt, alloc, "txc --version", b"txc "));
 }
