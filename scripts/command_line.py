@@ -1,10 +1,10 @@
 #!/usr/bin/env python3
-"""Holds the manual page and the completions in share/ to the command line of txc, as crates/command/src/line.rt has it.
+"""Compares the manual page and the completions in share/ with the command line of txc, crates/command/src/line.rt.
 
     scripts/command_line.py [--write]
 
-With `--write` it writes them: share/txc.1, and what bash, zsh and fish complete. Without, it fails where one differs.
-scripts/install.sh puts them where these look for them.
+With `--write` it writes share/txc.1 and the completions for bash, zsh and fish. Without it, it fails if one differs.
+scripts/install.sh installs them.
 """
 
 import collections
@@ -24,17 +24,17 @@ CALL = re.compile(
 )
 ADDED = re.compile(r"with_command\(.*\b(\w+)\(alloc\)\);?$", re.M)
 STATUS = re.compile(r"^\| (\d) \| (.*) \|$", re.M)
-# The words of threads' ends, which stand behind `explain` beside the numbers of faults.
+# The words for a thread's end, which `explain` takes as well as the number of a fault.
 WORD = re.compile(r'^        "(\w+)" => Some\($', re.M)
 
 Option = collections.namedtuple("Option", "name value help")
 # `takes` is the name of its first word, or None.
 Command = collections.namedtuple("Command", "name about example takes options")
 
-# What stands behind an option in place of a word of one's own: a file, or one of some words.
+# Options whose value is a file, and those whose value is one of some words.
 FILES, CHOICES = ["expect", "order-file", "refines", "report", "schedule"], {"format": ["short", "json"]}
-HELP = Option("help", None, "Prints help")
-VERSION = Option("version", None, "Prints which txc it is")
+HELP = Option("help", None, "Print help")
+VERSION = Option("version", None, "Print version")
 
 
 def read(path):
@@ -43,7 +43,7 @@ def read(path):
 
 
 def plain(text):
-    """What a text of the code says."""
+    """The text of a string literal."""
     return text.replace("\\n", "\n").replace('\\"', '"').replace("\\\\", "\\")
 
 
@@ -82,7 +82,7 @@ def ends():
 
 
 def words_of(command):
-    """The options of a command, as they are written."""
+    """The options of a command, with their dashes."""
     return " ".join(f"--{it.name}" for it in [*command.options, HELP])
 
 
@@ -200,7 +200,7 @@ def man_text(program, commands):
     lines += [".SH EXIT STATUS"]
     for status, when in STATUS.findall(pages):
         lines += [".TP", f"\\fB{status}\\fR", roff(when)]
-    lines += [".SH FILES", "One file that is read, the source or another, is standard input where it is named \\-."]
+    lines += [".SH FILES", "One of the files that a command reads may be \\-, standard input."]
     return "\n".join(lines) + "\n"
 
 

@@ -1,20 +1,19 @@
 #!/usr/bin/env python3
-"""Holds three files of tests, and documents, to examples/.
+"""Compares three files of tests, and documents, with examples/.
 
-  scripts/examples.py           fails where one of the files is not what --write writes, or where a document shows what
-                                the program does not print
+  scripts/examples.py           fails if one of the files is not what --write writes, or if a document shows what the
+                                program does not print
   scripts/examples.py --write   writes the files
 
-crates/serving_replays_tests/src/examples.rt runs each program of examples/, examples/against/ and examples/bench/ and
-compares what it prints with the file of the same name that ends in .out, and whether it is warned of with WARNED; and
-it runs each transcript of examples/transcripts/, a file whose first line is a command line, `$ txc ..`, and which has
-under it what a terminal then shows. crates/lower_tests/src/of_meaning/examples.rt runs each program of examples/ from
-its tree and compares with the same file; crates/lower_tests/src/of_lower/examples.rt lists the programs of examples/
-and demands a code of each.
+crates/serving_replays_tests/src/examples.rt runs each program of examples/, examples/against/ and examples/bench/. It
+compares the output with the file of the same name that ends in .out, and the warnings with WARNED. It also runs each
+transcript of examples/transcripts/: a file whose first line is a command line, `$ txc ..`, and whose rest is what a
+terminal then shows. crates/lower_tests/src/of_meaning/examples.rt runs each program of examples/ from its tree and
+compares with the same file; crates/lower_tests/src/of_lower/examples.rt compiles each program of examples/.
 
-In a document a block that begins with `$ txc run examples/NAME.c` has NAME.out under it, any other one that begins with
-`$ txc` is a transcript, the C that README.md and TUTORIAL.md show is that of files of examples/, and the schedules that
-TUTORIAL.md shows are those of examples/schedules/.
+In a document, a block that begins with `$ txc run examples/NAME.c` must continue with NAME.out, and any other one that
+begins with `$ txc` must be a transcript. The C in README.md and TUTORIAL.md must be that of files of examples/, and the
+schedules in TUTORIAL.md those of examples/schedules/.
 """
 
 import glob
@@ -32,7 +31,7 @@ PROGRAM = re.compile(r"^```c\n(.*?)^```$", re.M | re.S)
 RUN = re.compile(r"\$ txc run examples/((?:against/)?\w+)\.c\n")
 # Globals of 64 bits: their names are words of these lines.
 WIDE = re.compile(r"^(?:signed )?long long (.*);$", re.M)
-# Transcripts stand in tables of at most so many rows, with these names.
+# Tables of transcripts have at most so many rows, and these names.
 MOST_ROWS = 18
 PARTS = ("first", "second", "third", "fourth", "fifth")
 # Programs of which something is warned: it is what they show.
@@ -116,7 +115,7 @@ use test_serving::{{Served, request_of, serve_claim, serve_line}};
 /// A program's file, its source, and what it prints.
 type Example = (&'static str, &'static [u8], &'static [u8]);
 
-/// The rows stand in a function, so that no proof but its own looks at them.
+/// The rows are in a function, so that only its own proof reads them.
 fn examples() -> &'static [Example] {{
     static ROWS: [Example; {len(examples)}] = [
 {"".join(examples)}    ];
@@ -192,13 +191,13 @@ type Transcript = (
     &'static [u8],
 );
 
-{"".join(table(f"{which}_transcripts", part) for which, part in zip(PARTS, parts, strict=False))}/// What a terminal shows of a line once it is whole: what stands behind the last return to its begin, since the line that
-/// tells how far a walk is ends in blanks and such a return.
+{"".join(table(f"{which}_transcripts", part) for which, part in zip(PARTS, parts, strict=False))}/// The part of a line that a terminal shows once it is complete: what follows the last carriage return, since a line of
+/// progress ends in blanks and a carriage return.
 fn left_of(line: &[u8]) -> Option<&[u8]> {{
     line.rsplit(|byte| *byte == b'\\r').next()
 }}
 
-/// Whether this is what was served: the output, and behind it what stays of the standard error.
+/// Whether this is what was served: the output, and then what remains of standard error.
 fn shows(served: &Served, shown: &[u8]) -> bool {{
     let out = served.out.as_slice();
     shown.starts_with(out) && shown.get(out.len()..) == left_of(served.err.as_slice())
@@ -277,7 +276,7 @@ fn examples() -> &'static [Row] {{
 /// Entries enough for the transactions of each program.
 const ALONE: [u32; 20] = [0; 20];
 
-/// Whether a thread has printed what the row says, and is over so.
+/// Whether a thread printed what the row says, and ended as it says.
 fn is_report(report: &ThreadReport, row: &Row) -> bool {{
     let over = match report.end {{
         ThreadEnd::Ended => row.1 == 0,
@@ -336,7 +335,7 @@ use crate::asserted::assert_none;
 use crate::of_lower::codes::fault_of;
 use std::alloc::Global;
 
-/// The texts stand in a function, so that no proof but its own looks at them.
+/// The texts are in a function, so that only its own proof reads them.
 pub fn examples() -> &'static [&'static str] {{
     static TEXTS: [&str; {len(examples)}] = [
 {"".join(examples)}    ];

@@ -1,19 +1,19 @@
 # Completes the words of txc. Written by scripts/command_line.py.
 complete -c txc -f
-complete -c txc -n __fish_use_subcommand -l help -d 'Prints help'
-complete -c txc -n __fish_use_subcommand -l version -d 'Prints which txc it is'
+complete -c txc -n __fish_use_subcommand -l help -d 'Print help'
+complete -c txc -n __fish_use_subcommand -l version -d 'Print version'
 complete -c txc -n __fish_use_subcommand -a check -d 'Check a program for errors and suspicious code, without running it'
 complete -c txc -n '__fish_seen_subcommand_from check' -F
 complete -c txc -n '__fish_seen_subcommand_from check' -l verbose -d 'Show source lines of faults, and where threads trapped or stopped [default on a terminal], and why a file can'\''t be read'
 complete -c txc -n '__fish_seen_subcommand_from check' -l format -x -a 'short json' -d 'Report each fault on one line: short is FILE:LINE:COL: error: WORDS [NN], for editors; json is an object'
 complete -c txc -n '__fish_seen_subcommand_from check' -l warn -d 'Print warnings about suspicious code [default on a terminal]'
 complete -c txc -n '__fish_seen_subcommand_from check' -l all -d 'Report up to 20 faults of names, types and transactions, not only the first [default on a terminal]'
-complete -c txc -n '__fish_seen_subcommand_from check' -l help -d 'Prints help'
+complete -c txc -n '__fish_seen_subcommand_from check' -l help -d 'Print help'
 complete -c txc -n __fish_use_subcommand -a listing -d 'Print the instructions that a program is compiled to'
 complete -c txc -n '__fish_seen_subcommand_from listing' -F
 complete -c txc -n '__fish_seen_subcommand_from listing' -l verbose -d 'Show source lines of faults, and where threads trapped or stopped [default on a terminal], and why a file can'\''t be read'
 complete -c txc -n '__fish_seen_subcommand_from listing' -l format -x -a 'short json' -d 'Report each fault on one line: short is FILE:LINE:COL: error: WORDS [NN], for editors; json is an object'
-complete -c txc -n '__fish_seen_subcommand_from listing' -l help -d 'Prints help'
+complete -c txc -n '__fish_seen_subcommand_from listing' -l help -d 'Print help'
 complete -c txc -n __fish_use_subcommand -a run -d 'Run a program on real threads, and print how each ended, its output and the final globals'
 complete -c txc -n '__fish_seen_subcommand_from run' -F
 complete -c txc -n '__fish_seen_subcommand_from run' -l verbose -d 'Show source lines of faults, and where threads trapped or stopped [default on a terminal], and why a file can'\''t be read'
@@ -22,7 +22,7 @@ complete -c txc -n '__fish_seen_subcommand_from run' -l threads -x -d 'Number of
 complete -c txc -n '__fish_seen_subcommand_from run' -l budget -x -d 'Limit on the steps of each thread, 0 to 4294967295 [default: 4294967295]'
 complete -c txc -n '__fish_seen_subcommand_from run' -l counts -d 'Print how many steps, shared accesses, transactions, aborted attempts and retries each thread made, on standard error'
 complete -c txc -n '__fish_seen_subcommand_from run' -l memory -x -d 'Limit on the memory for output and transaction logs, in MB, 0 to 4294967295 [default: 4294967295]'
-complete -c txc -n '__fish_seen_subcommand_from run' -l help -d 'Prints help'
+complete -c txc -n '__fish_seen_subcommand_from run' -l help -d 'Print help'
 complete -c txc -n __fish_use_subcommand -a replay -d 'Replay a schedule of single steps, and print its events and final state'
 complete -c txc -n '__fish_seen_subcommand_from replay' -F
 complete -c txc -n '__fish_seen_subcommand_from replay' -l verbose -d 'Show source lines of faults, and where threads trapped or stopped [default on a terminal], and why a file can'\''t be read'
@@ -36,7 +36,7 @@ complete -c txc -n '__fish_seen_subcommand_from replay' -l timeline -d 'Print ev
 complete -c txc -n '__fish_seen_subcommand_from replay' -l picture -d 'Draw the steps as an SVG picture, in place of the report'
 complete -c txc -n '__fish_seen_subcommand_from replay' -l from -x -d 'First shared access to draw, 0 to 1048576; a picture shows 400 [default: 0]'
 complete -c txc -n '__fish_seen_subcommand_from replay' -l print-schedule -d 'Print the steps of --seed or --order as a schedule, in place of the report'
-complete -c txc -n '__fish_seen_subcommand_from replay' -l help -d 'Prints help'
+complete -c txc -n '__fish_seen_subcommand_from replay' -l help -d 'Print help'
 complete -c txc -n __fish_use_subcommand -a source -d 'Run the source one whole transaction at a time, in a given order of threads'
 complete -c txc -n '__fish_seen_subcommand_from source' -F
 complete -c txc -n '__fish_seen_subcommand_from source' -l verbose -d 'Show source lines of faults, and where threads trapped or stopped [default on a terminal], and why a file can'\''t be read'
@@ -44,7 +44,7 @@ complete -c txc -n '__fish_seen_subcommand_from source' -l format -x -a 'short j
 complete -c txc -n '__fish_seen_subcommand_from source' -l threads -x -d 'Number of threads, 1 to 64 [default: 1]'
 complete -c txc -n '__fish_seen_subcommand_from source' -l order -x -d 'Order of transactions: thread numbers joined by commas, as 0,1,0, or an empty word'
 complete -c txc -n '__fish_seen_subcommand_from source' -l ticks -x -d 'Limit on the ticks of each thread (statements, loop iterations, calls), 0 to 1000000 [default: 100000]'
-complete -c txc -n '__fish_seen_subcommand_from source' -l help -d 'Prints help'
+complete -c txc -n '__fish_seen_subcommand_from source' -l help -d 'Print help'
 complete -c txc -n __fish_use_subcommand -a outcomes -d 'List every possible outcome of a program, each with an order of transactions that leads to it, and deadlocks'
 complete -c txc -n '__fish_seen_subcommand_from outcomes' -F
 complete -c txc -n '__fish_seen_subcommand_from outcomes' -l verbose -d 'Show source lines of faults, and where threads trapped or stopped [default on a terminal], and why a file can'\''t be read'
@@ -57,7 +57,7 @@ complete -c txc -n '__fish_seen_subcommand_from outcomes' -l refines -r -F -d 'C
 complete -c txc -n '__fish_seen_subcommand_from outcomes' -l expect -r -F -d 'Check that the list is the text of the file LIST, byte for byte; if not, print the first line that differs'
 complete -c txc -n '__fish_seen_subcommand_from outcomes' -l always -x -d 'Check that functions `int NAME(void)` of FILE return nonzero in every state, in place of the list; names are joined by commas'
 complete -c txc -n '__fish_seen_subcommand_from outcomes' -l final -x -d 'Check that functions return nonzero in every outcome, in place of the list'
-complete -c txc -n '__fish_seen_subcommand_from outcomes' -l help -d 'Prints help'
+complete -c txc -n '__fish_seen_subcommand_from outcomes' -l help -d 'Print help'
 complete -c txc -n __fish_use_subcommand -a certify -d 'Check that a report is what the source prints in a given order of transactions, byte for byte'
 complete -c txc -n '__fish_seen_subcommand_from certify' -F
 complete -c txc -n '__fish_seen_subcommand_from certify' -l verbose -d 'Show source lines of faults, and where threads trapped or stopped [default on a terminal], and why a file can'\''t be read'
@@ -66,7 +66,7 @@ complete -c txc -n '__fish_seen_subcommand_from certify' -l threads -x -d 'Numbe
 complete -c txc -n '__fish_seen_subcommand_from certify' -l order-file -r -F -d 'File with the order of transactions: thread numbers between commas, blanks or line ends'
 complete -c txc -n '__fish_seen_subcommand_from certify' -l report -r -F -d 'File with the report to check'
 complete -c txc -n '__fish_seen_subcommand_from certify' -l ticks -x -d 'Limit on the ticks of each thread (statements, loop iterations, calls), 0 to 4294967295 [default: 4294967295]'
-complete -c txc -n '__fish_seen_subcommand_from certify' -l help -d 'Prints help'
+complete -c txc -n '__fish_seen_subcommand_from certify' -l help -d 'Print help'
 complete -c txc -n __fish_use_subcommand -a explain -d 'Explain a fault (an error that txc reports) or how a thread ended, with an example'
 complete -c txc -n '__fish_seen_subcommand_from explain' -a 'trap budget spent waits running stop'
-complete -c txc -n '__fish_seen_subcommand_from explain' -l help -d 'Prints help'
+complete -c txc -n '__fish_seen_subcommand_from explain' -l help -d 'Print help'

@@ -8,7 +8,7 @@ use test_serving::{Served, request_of, serve_claim, serve_line};
 /// A program's file, its source, and what it prints.
 type Example = (&'static str, &'static [u8], &'static [u8]);
 
-/// The rows stand in a function, so that no proof but its own looks at them.
+/// The rows are in a function, so that only its own proof reads them.
 fn examples() -> &'static [Example] {
     static ROWS: [Example; 36] = [
         (
@@ -850,13 +850,13 @@ fn fifth_transcripts() -> &'static [Transcript] {
     &ROWS
 }
 
-/// What a terminal shows of a line once it is whole: what stands behind the last return to its begin, since the line that
-/// tells how far a walk is ends in blanks and such a return.
+/// The part of a line that a terminal shows once it is complete: what follows the last carriage return, since a line of
+/// progress ends in blanks and a carriage return.
 fn left_of(line: &[u8]) -> Option<&[u8]> {
     line.rsplit(|byte| *byte == b'\r').next()
 }
 
-/// Whether this is what was served: the output, and behind it what stays of the standard error.
+/// Whether this is what was served: the output, and then what remains of standard error.
 fn shows(served: &Served, shown: &[u8]) -> bool {
     let out = served.out.as_slice();
     shown.starts_with(out) && shown.get(out.len()..) == left_of(served.err.as_slice())

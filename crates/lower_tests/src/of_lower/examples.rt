@@ -4,7 +4,7 @@ use crate::asserted::assert_none;
 use crate::of_lower::codes::fault_of;
 use std::alloc::Global;
 
-/// The texts stand in a function, so that no proof but its own looks at them.
+/// The texts are in a function, so that only its own proof reads them.
 pub fn examples() -> &'static [&'static str] {
     static TEXTS: [&str; 21] = [
         "// Thread 0 moves 50 in two transactions. Thread 1 adds up both accounts, and can find 50 missing.\nint checking = 120, savings = 40;\n\nvoid worker(int self) {\n    int total;\n    if (self == 0) {\n        __transaction_atomic { checking = checking - 50; }\n        __transaction_atomic { savings = savings + 50; }\n    } else {\n        __transaction_atomic { total = checking + savings; }\n        printf(\"%d\\n\", total);\n    }\n}\n",

@@ -144,7 +144,7 @@ fn examples() -> &'static [Row] {
 /// Entries enough for the transactions of each program.
 const ALONE: [u32; 20] = [0; 20];
 
-/// Whether a thread has printed what the row says, and is over so.
+/// Whether a thread printed what the row says, and ended as it says.
 fn is_report(report: &ThreadReport, row: &Row) -> bool {
     let over = match report.end {
         ThreadEnd::Ended => row.1 == 0,
