@@ -132,7 +132,7 @@ def wrong_grammar():
         return
     grammar = normal(re.sub(r"^(\w+) += ", r"\1 ::= ", blocks[0], flags=re.M), {})
     known = {*re.findall(r"^(\w+) +=", blocks[0], re.M), "expr", "name", "const", "string"}
-    known |= set(re.findall(r"\w+", " ".join(re.findall(r'"([^"]+)"', blocks[0]))))
+    known |= set(re.findall(r'Keyword key\.\w+\) = codes "(\w+)"', read("crates/lex/specs/Spelling.antt"))) | {"outer"}
     found = 0
     for path in sorted(glob.glob("crates/parse/src/*.rt", root_dir=TOP)):
         for comment in re.findall(r"^ */// ((?:`[^`]+`(?:, | or )?)+)", read(path), re.M):
