@@ -17,7 +17,7 @@ are in 12 seconds, unless --fresh is given.
 transactions. --report writes a C file for each program that is wrong, which stands by itself, with a `main` that tells
 the wrong outcome (scripts/lib/gcc_reports.py).
 
---generate makes random programs and shrinks each that has a wrong outcome. --tutorial (or --guide) runs each call of this
+--generate makes random programs and shrinks each that has a wrong outcome. --tutorial runs each call of this
 script that a page of docs/ shows: with one thread GCC 12.2.0 has to print what the page shows; with more threads the
 result depends on the schedule, and is only printed.
 
@@ -366,7 +366,7 @@ def words(given=None):
     what = parser.add_mutually_exclusive_group(required=True)
     what.add_argument("file", nargs="?", metavar="FILE")
     what.add_argument("--generate", type=int, metavar="SEED", help="judges a program made by chance")
-    what.add_argument("--tutorial", "--guide", action="store_true", help="runs each call that a page of docs/ shows")
+    what.add_argument("--tutorial", action="store_true", help="runs each call that a page of docs/ shows")
     parser.add_argument("--threads", type=int, default=1, metavar="T", help="1 to 64, and 1 if not given")
     parser.add_argument("--runs", type=int, metavar="N", help="2 of one thread and 2000 of more, if not given")
     parser.add_argument("--cc", default="gcc", help="the compiler, with words of its own if there are any")
