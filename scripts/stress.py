@@ -6,9 +6,9 @@
 Two threads buy one seat, and the bug is that both get it (`sold = 2`). GCC builds the program with -O2 -fgnu-tm and a
 `main` that starts two threads RUNS times, each time from the first values of the globals: once with nothing else, and
 once with a barrier at which both threads wait first. Then each call of `txc run` and each seed of `txc replay` is one
-test. Chance decides all rows but the last. Without gcc or libitm the first two rows are left out. With 60,000 runs all
-takes less than a minute. txc is $TXC, or the program that `rt run` or scripts/quick_build.py makes, or `txc` on the
-path.
+test. Chance decides the rows of real threads, and so does what else the machine does. Without gcc or libitm the first
+two rows are left out. 60,000 runs [default] took four minutes on a busy machine. txc is $TXC, or the program that `rt
+run` or scripts/quick_build.py makes, or `txc` on the path.
 """
 
 import subprocess
