@@ -1,21 +1,20 @@
 #!/usr/bin/env python3
 """Shows how often tests find the bug of examples/seats.c, and how `txc outcomes` does: prints a table in Markdown.
 
-    scripts/stress.py [RUNS]
+    scripts/stress.py [RUNS] [--txc PATH]
 
 Two threads buy one seat, and the bug is that both get it (`sold = 2`). GCC builds the program with -O2 -fgnu-tm and a
 `main` that starts two threads RUNS times, each time from the first values of the globals: once with nothing else, and
 once with a barrier at which both threads wait first. Then each call of `txc run` and each seed of `txc replay` is one
 test. Chance decides the rows of real threads, and so does what else the machine does. Without gcc or libitm the first
-two rows are left out. 60,000 runs [default] took four minutes on a busy machine. txc is $TXC, or the program that `rt
-run` or scripts/quick_build.py makes, or `txc` on the path.
+two rows are left out. 60,000 runs [default] took four minutes on a busy machine.
 """
 
 import subprocess
 import sys
 import tempfile
 
-from words import TOP, asked, count, txc
+from lib.words import TOP, TXC, asked, count
 
 SEATS = f"{TOP}/examples/seats.c"
 SOLD_TWICE = "sold = 2"
@@ -95,8 +94,8 @@ def txc_row(way, commands):
 
 
 def main():
-    given = asked(__doc__, count("runs", 60000, 1))
-    program = txc()
+    given = asked(__doc__, count("runs", 60000, 1), TXC)
+    program = given.txc
     print("| Test | Runs that sold the seat twice | First at run |\n|---|---|---|")
     for line in gcc_rows(given.runs):
         print(line, flush=True)
