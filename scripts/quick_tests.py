@@ -1,11 +1,14 @@
 #!/usr/bin/env python3
 """Runs all tests in minutes, WITHOUT PROVING ANYTHING.
 
-    scripts/quick_tests.py [--jobs N] [CRATE..]
+    scripts/quick_tests.py [--jobs N] [--unchecked] [CRATE..]
 
 The tests of each crate that has some, or of those that are named, are compiled with all that they call by `rt try
 --test`, which puts checks into the code (of bounds, of sums that wrap, of freed memory), and run. Where code breaks a
 contract, no proof says so here, but a test that fails or a check that stops one: `.ci/run` proves.
+
+With --unchecked they are compiled as scripts/quick_build.py compiles the program, without these checks and optimised,
+which takes a fraction of the time: a sum that wraps, or an index out of bounds, is noticed only by what it leads to.
 
 As many crates as --jobs says are tried side by side: as there are processors, at most four. Each holds up to 2 GB. A
 line tells what came of a crate's tests as they end, and the seconds of processor that they took; what a crate printed
@@ -22,8 +25,8 @@ import time
 from concurrent.futures import ThreadPoolExecutor, as_completed
 
 from gate_cost import has_tests, libraries, measure
-from quick_build import copy_sources, kit, make_links
 from lib.words import TOP, reader
+from quick_build import copy_sources, keep_bitcode, kit, linked, make_links
 
 RESULT = re.compile(r"^test result: (ok\. )?.*$", re.M)
 # On the clock, for the tests of one crate once they are compiled: other work may be going on.
@@ -57,9 +60,30 @@ def tried(crate, work):
     return status == 0 and result and result[1], result[0] if result else f"ended in status {status}", seconds, text
 
 
+def tried_unchecked(crate, work):
+    """The same, without checks in the code."""
+    links, bitcode, program = (f"{work}/{crate}.{it}" for it in ("kit", "bc", "tests"))
+    folder = f"{work}/sources/crates/{crate}"
+    make_links(kit(), links)
+    keep_bitcode(kit(), links, bitcode)
+    with open(f"{work}/{crate}", "w+", encoding="utf-8", errors="replace") as said:
+        _, seconds, _ = measure([f"{links}/bin/rt", "try", "--test"], folder, said)
+        if os.path.exists(bitcode):
+            said.seek(0)
+            said.truncate()
+            linked(bitcode, f"{work}/sources", links, program)
+            _, more, _ = measure([f"{kit()}/bin/rattle-test", "--seconds", SECONDS, program], folder, said)
+            seconds += more
+        said.seek(0)
+        text = said.read()
+    result = RESULT.search(text)
+    return result and result[1], result[0] if result else "the tests were not run", seconds, text
+
+
 def main():
     words = reader(__doc__)
     words.add_argument("--jobs", type=int, default=min(4, os.cpu_count() or 1))
+    words.add_argument("--unchecked", action="store_true")
     words.add_argument("crates", nargs="*", metavar="CRATE")
     given = words.parse_args()
     known = [it for it in libraries() if has_tests(f"{TOP}/crates/{it}")]
@@ -71,7 +95,8 @@ def main():
     with tempfile.TemporaryDirectory(prefix="txc-quick-tests-") as work, ThreadPoolExecutor(given.jobs) as pool:
         copy_sources(f"{work}/sources")
         make_links(kit(), f"{work}/kit")
-        runs = {pool.submit(tried, it, work): it for it in given.crates or known}
+        one_try = tried_unchecked if given.unchecked else tried
+        runs = {pool.submit(one_try, it, work): it for it in given.crates or known}
         try:
             for run in as_completed(runs):
                 passed, result, seconds, text = run.result()
