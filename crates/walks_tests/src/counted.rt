@@ -4,7 +4,9 @@ ghost use Rattle.std.specs.Prelude.{◌≡◌, length};
 ghost use Rattle.bytecode.specs.Code.{Code};
 ghost use Rattle.walks.specs.Walks.{IsWalk};
 
-use crate::programs::{ADDS, APART, DINES, LOCKS, PRINTS, SPINS, TICKETS, TRAPS, WAITS};
+use crate::programs::{
+    ADDS, APART, DINES, FORGETS, FORGETS_ALL, LOCKS, LOOKS, PRINTS, SPINS, TICKETS, TRAPS, WAITS,
+};
 use crate::walked::{code_of, walk_of};
 use std::alloc::Allocator;
 use test_programs::accepted_of;
@@ -15,7 +17,7 @@ use walks::{Ends, Walk, ends_of, first_stuck};
 type Row = (&'static str, u32, usize, usize, usize, usize);
 
 fn rows() -> &'static [Row] {
-    static ROWS: [Row; 20] = [
+    static ROWS: [Row; 25] = [
         (ADDS, 1, 3, 1, 0, 0),
         (ADDS, 2, 12, 2, 0, 0),
         (ADDS, 3, 59, 3, 0, 0),
@@ -25,9 +27,16 @@ fn rows() -> &'static [Row] {
         (WAITS, 2, 5, 1, 0, 0),
         (APART, 4, 256, 1, 0, 0),
         // whether a thread that waits has looked for its turn is in registers alone that are never read
-        (TICKETS, 2, 80, 1, 0, 0),
-        (TICKETS, 3, 848, 1, 0, 0),
-        (TICKETS, 4, 10752, 1, 0, 0),
+        (TICKETS, 2, 69, 1, 0, 0),
+        (TICKETS, 3, 549, 1, 0, 0),
+        (TICKETS, 4, 4905, 1, 0, 0),
+        // no cancel can bring back what a thread found when it looked before
+        (LOOKS, 4, 1, 0, 1, 1),
+        // a cancel brings back a register that the transaction wrote
+        (FORGETS, 2, 10, 2, 0, 0),
+        (FORGETS, 3, 35, 3, 0, 0),
+        (FORGETS_ALL, 2, 10, 2, 0, 0),
+        (FORGETS_ALL, 3, 35, 3, 0, 0),
         // two threads that each hold one lock, whether or not they have looked for the other's
         (LOCKS, 2, 13, 1, 1, 1),
         (LOCKS, 4, 25, 0, 25, 1),

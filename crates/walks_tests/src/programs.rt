@@ -87,6 +87,29 @@ pub const SPINS: &str = "int x; void worker(int self) {
     while (!k) { __transaction_atomic { k = x; } }
 }";
 
+/// Each thread looks until what it finds changes, which no thread does.
+pub const LOOKS: &str = "int v = 5; void worker(int self) {
+    int k;
+    do { __transaction_atomic { k = v; } } while (k == 5);
+}";
+
+/// Each thread writes its number, which a cancel has brought back.
+pub const FORGETS: &str = "int y; void worker(int self) {
+    int k = self;
+    __transaction_atomic { k = 7; __transaction_cancel; }
+    __transaction_atomic { y = k; }
+}";
+
+/// The same with an outer cancel.
+pub const FORGETS_ALL: &str = "int y; void worker(int self) {
+    int k = self;
+    __transaction_atomic [[outer]] {
+        k = 7;
+        __transaction_atomic { __transaction_cancel [[outer]]; }
+    }
+    __transaction_atomic { y = k; }
+}";
+
 /// Thread 1 does not leave its transaction.
 pub const LOOPS: &str = "int x; void worker(int self) {
     __transaction_atomic { x = 5; while (self) { } }
