@@ -15,7 +15,7 @@ _txc() {
                     run) words='--verbose --format --threads --budget --counts --memory --help' ;;
                     replay) words='--verbose --format --threads --schedule --seed --steps --order --timeline --picture --from --print-schedule --help' ;;
                     source) words='--verbose --format --threads --order --ticks --help' ;;
-                    outcomes) words='--verbose --format --threads --steps --limit --memory --refines --expect --always --final --help' ;;
+                    outcomes) words='--verbose --format --threads --steps --limit --memory --refines --expect --always --final --keep-going --help' ;;
                     certify) words='--verbose --format --threads --order-file --report --ticks --help' ;;
                     explain) words='--help' ;;
                 esac

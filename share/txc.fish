@@ -57,6 +57,7 @@ complete -c txc -n '__fish_seen_subcommand_from outcomes' -l refines -r -F -d 'C
 complete -c txc -n '__fish_seen_subcommand_from outcomes' -l expect -r -F -d 'Check that the list is the text of the file LIST, byte for byte; if not, print the first line that differs'
 complete -c txc -n '__fish_seen_subcommand_from outcomes' -l always -x -d 'Check that functions `int NAME(void)` of FILE return nonzero in every state, in place of the list; names are joined by commas'
 complete -c txc -n '__fish_seen_subcommand_from outcomes' -l final -x -d 'Check that functions return nonzero in every outcome, in place of the list'
+complete -c txc -n '__fish_seen_subcommand_from outcomes' -l keep-going -d 'Continue the search after each function has failed, and list all deadlocks'
 complete -c txc -n '__fish_seen_subcommand_from outcomes' -l help -d 'Print help'
 complete -c txc -n __fish_use_subcommand -a certify -d 'Check that a report is what the source prints in a given order of transactions, byte for byte'
 complete -c txc -n '__fish_seen_subcommand_from certify' -F

@@ -185,6 +185,7 @@ pub record AreQuestions (given : List Row) (questions : Questions) : Type 0 wher
   pub memory : IsNumberInRange given (codes "memory") 1024 0 4294967295 questions.memory
   pub always : option_map string_bytes questions.always ≡ first_of (codes "always") given
   pub last : option_map string_bytes questions.last ≡ first_of (codes "final") given
+  pub keeps_going : IsTrue questions.keeps_going ↔ IsFlagged given (codes "keep-going")
 
 -- a file of an order, and one of a report; at most one of these and the source is standard input
 pub record AreClaimFiles (given : List Row) (order report : Text) : Type 0 where

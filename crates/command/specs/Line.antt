@@ -76,7 +76,8 @@ outcome_states_app =
 
 abbrev pub outcomes_app : App
 outcomes_app =
-    with_rule (with_rule outcome_states_app (text_rule (codes "always"))) (text_rule (codes "final"))
+    let always = with_rule outcome_states_app (text_rule (codes "always")) in
+    with_rule (with_rule always (text_rule (codes "final"))) (flag_rule (codes "keep-going"))
 
 abbrev pub certify_app : App
 certify_app =

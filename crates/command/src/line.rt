@@ -385,7 +385,13 @@ fn outcomes<'a>(alloc: Global) -> Result<Command<'a>, AllocError>
         "NAMES",
         "Check that functions return nonzero in every outcome, in place of the list",
     );
-    with(command, last)
+    let command = with(command, last);
+    let keep_going = flag(
+        alloc,
+        "keep-going",
+        "Continue the search after each function has failed, and list all deadlocks",
+    );
+    with(command, keep_going)
 }
 
 /// The command that certifies a report.

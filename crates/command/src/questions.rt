@@ -6,7 +6,7 @@ ghost use Rattle.command.specs.Asked.{AreQuestions, are_asked};
 ghost use Rattle.command.specs.declared.request.Questions.{Questions};
 ghost use Rattle.command.specs.inner.Refusals.{IsOwn};
 
-use crate::given::text_given;
+use crate::given::{flag_given, text_given};
 use crate::request::{Questions, UsageFault};
 use crate::task::{number, threads};
 use clap::ArgMatches;
@@ -67,5 +67,6 @@ pub(crate) fn questions(alloc: Global, given: &ArgMatches<'_>) -> Result<Questio
         memory,
         always: text_kept(alloc, given, "always")?,
         last: text_kept(alloc, given, "final")?,
+        keeps_going: flag_given(given, "keep-going"),
     })
 }

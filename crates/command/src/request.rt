@@ -98,6 +98,8 @@ pub struct Questions {
     pub always: Option<String>,
     /// Functions that are to hold in every outcome.
     pub last: Option<String>,
+    /// Whether the search continues once each function has failed.
+    pub keeps_going: bool,
 }
 
 /// How the fault of a source is told.

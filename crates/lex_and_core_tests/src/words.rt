@@ -692,18 +692,22 @@ fn reads_comparisons(rt: HostRuntime) {
 
 /// Functions that are asked whether they hold.
 fn questions() -> &'static [Row] {
-    static ROWS: [Row; 6] = [
+    static ROWS: [Row; 7] = [
         (
             "txc|outcomes|a.c|--always|p",
-            br#"Ok(Ask { file: "a.c", verbose: false, format: Plain, questions: Questions { threads: 1, steps: 1000000, limit: 1000000, memory: 1024, always: Some("p"), last: None } })"#,
+            br#"Ok(Ask { file: "a.c", verbose: false, format: Plain, questions: Questions { threads: 1, steps: 1000000, limit: 1000000, memory: 1024, always: Some("p"), last: None, keeps_going: false } })"#,
         ),
         (
             "txc|outcomes|--final=p,q|--threads=3|--steps=0|--limit=7|a.c|--verbose|--format=json",
-            br#"Ok(Ask { file: "a.c", verbose: true, format: Json, questions: Questions { threads: 3, steps: 0, limit: 7, memory: 1024, always: None, last: Some("p,q") } })"#,
+            br#"Ok(Ask { file: "a.c", verbose: true, format: Json, questions: Questions { threads: 3, steps: 0, limit: 7, memory: 1024, always: None, last: Some("p,q"), keeps_going: false } })"#,
+        ),
+        (
+            "txc|outcomes|a.c|--keep-going|--always=p",
+            br#"Ok(Ask { file: "a.c", verbose: false, format: Plain, questions: Questions { threads: 1, steps: 1000000, limit: 1000000, memory: 1024, always: Some("p"), last: None, keeps_going: true } })"#,
         ),
         (
             "txc|outcomes|-|--final=|--always=p,p",
-            br#"Ok(Ask { file: "-", verbose: false, format: Plain, questions: Questions { threads: 1, steps: 1000000, limit: 1000000, memory: 1024, always: Some("p,p"), last: Some("") } })"#,
+            br#"Ok(Ask { file: "-", verbose: false, format: Plain, questions: Questions { threads: 1, steps: 1000000, limit: 1000000, memory: 1024, always: Some("p,p"), last: Some(""), keeps_going: false } })"#,
         ),
         (
             "txc|outcomes|a.c|--limit=9",

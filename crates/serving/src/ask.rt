@@ -20,7 +20,7 @@ use crate::files::{Files, text_of};
 use crate::listed_ends::tell_asked_ends;
 use crate::print::{ENDED, REFUTED, STOPPED, UNUSABLE, print};
 use crate::program::{Compiled, compile, unit_of};
-use crate::properties::{PropertiesFound, properties_in};
+use crate::properties::{Extent, PropertiesFound, properties_in};
 use crate::request::bytes_of_memory;
 use crate::tell::{Teller, cannot_write, out_of_memory};
 use command::Questions;
@@ -137,6 +137,18 @@ fn ask_program<A: Allocator + Copy, W: Write, E: Write>(
     }
 }
 
+/// How far a search for answers goes.
+fn extent_of(questions: &Questions) -> Extent
+    ensures { result.steps ≡ questions.now.steps }
+{
+    Extent {
+        steps: u64::from(questions.steps),
+        limit: questions.limit,
+        memory: bytes_of_memory(questions.memory),
+        keeps_going: questions.keeps_going,
+    }
+}
+
 /// Says whether functions of these names hold in every state, and these in every outcome.
 fn ask_names<A: Allocator + Copy, W: Write, E: Write>(
     alloc: A,
@@ -166,9 +178,7 @@ fn ask_names<A: Allocator + Copy, W: Write, E: Write>(
         alloc,
         compiled,
         questions.threads,
-        u64::from(questions.steps),
-        questions.limit,
-        bytes_of_memory(questions.memory),
+        extent_of(questions),
         always,
         last,
         teller,

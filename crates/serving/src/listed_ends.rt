@@ -57,7 +57,14 @@ pub(crate) fn tell_asked_ends<A: Allocator + Copy, E: Write>(
     tell_orders(
         alloc, text, accepted, threads, stuck, &mut shown, teller.err,
     );
-    tell_stop(found.end, teller.err);
+    if found.is_answered {
+        let _ = writeln!(
+            teller.err,
+            "txc: each property has its answer, so the search stopped; --keep-going continues it"
+        );
+    } else {
+        tell_stop(found.end, teller.err);
+    }
 }
 
 /// Says which option lets a walk go on that was stopped.

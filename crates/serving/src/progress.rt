@@ -4,7 +4,7 @@ use crate::listed_bytes::bytes_of;
 use report::ReportSet;
 use std::alloc::Allocator;
 use std::io::Write;
-use walks::Progress;
+use walks::{Progress, Walk};
 
 /// After how many further states or outcomes the line is written anew.
 const STRIDE: usize = 1000;
@@ -100,8 +100,9 @@ impl<'e, E: Write> ProgressLine<'e, E> {
     }
 }
 
-impl<E: Write> Progress for ProgressLine<'_, E> {
-    fn tell(&mut self, states: usize, bytes: u64) -> bool {
+impl<A: Allocator + Copy, E: Write> Progress<A> for ProgressLine<'_, E> {
+    fn tell(&mut self, walk: &Walk<A>, bytes: u64) -> bool {
+        let states = walk.states();
         self.held = bytes;
         if bytes > self.most / 2 {
             self.is_full = true;

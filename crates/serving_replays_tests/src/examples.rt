@@ -274,7 +274,7 @@ fn first_transcripts() -> &'static [Transcript] {
             b"// A property may trap, for example by a division by 0, or may never end.\nint sum, count, steps = 1;\n\nint average_is_small(void) { return sum / count < 10; }\n\nint comes_to_an_end(void) {\n    int i = 0;\n    while (i != count * 2) i = i + 2 * steps;\n    return 1;\n}\n\nvoid worker(int self) {\n    __transaction_atomic { sum = sum + self; }\n    __transaction_atomic { count = count + 1; }\n    __transaction_atomic { steps = 0; }\n}\n",
             b"",
             b"",
-            b"== not average_is_small --order ''\n== thread 0: waits\n== thread 1: waits\n== memory\nsum = 0\ncount = 0\nsteps = 1\n== spent comes_to_an_end --order 0,0,0\n== thread 0: ended\n== thread 1: waits\n== memory\nsum = 0\ncount = 1\nsteps = 0\n",
+            b"== not average_is_small --order ''\n== thread 0: waits\n== thread 1: waits\n== memory\nsum = 0\ncount = 0\nsteps = 1\n== spent comes_to_an_end --order 0,0,0\n== thread 0: ended\n== thread 1: waits\n== memory\nsum = 0\ncount = 1\nsteps = 0\ntxc: each property has its answer, so the search stopped; --keep-going continues it\n",
         ),
         (
             "txc outcomes examples/properties/bank.c --threads 3 --always kept,covered",
@@ -288,7 +288,7 @@ fn first_transcripts() -> &'static [Transcript] {
             b"// Money leaves one account in one transaction and enters the next one in another: in between it is missing.\nint account[3] = {20, 20, 20};\n\nint kept(void) {\n    int i, sum = 0;\n    for (i = 0; i < 3; i++) sum = sum + account[i];\n    return sum == 60;\n}\n\nvoid worker(int self) {\n    int i, free, from = self % 3, to = (self + 1) % 3;\n    for (i = 0; i < 2; i++) {\n        __transaction_atomic { free = account[from] >= 10; if (free) account[from] = account[from] - 10; }\n        if (free) __transaction_atomic { account[to] = account[to] + 10; }\n    }\n}\n",
             b"",
             b"",
-            b"== not kept --order 1\n== thread 0: waits\n== thread 1: waits\n== memory\naccount = 20 10 20\n== final kept: outcomes 1\n",
+            b"== not kept --order 0\n== thread 0: waits\n== thread 1: waits\n== memory\naccount = 10 20 20\n== final kept: outcomes 1\n",
         ),
         (
             "txc outcomes examples/properties/lock.c --threads 3 --always alone",
@@ -302,7 +302,7 @@ fn first_transcripts() -> &'static [Transcript] {
             b"// A lock that is tested in one transaction and taken in the next: two threads may find it free.\nint taken, inside, entered;\n\nint alone(void) { return inside <= 1; }\n\nvoid worker(int self) {\n    int mine = 0;\n    while (!mine) {\n        __transaction_atomic { mine = !taken; }\n    }\n    __transaction_atomic { taken = 1; }\n    __transaction_atomic { inside = inside + 1; }\n    __transaction_atomic { inside = inside - 1; entered = entered + 1; }\n    __transaction_atomic { taken = 0; }\n}\n",
             b"",
             b"",
-            b"== not alone --order 0,1,0,0,1,1\n== thread 0: waits\n== thread 1: waits\n== memory\ntaken = 1\ninside = 2\nentered = 0\n",
+            b"== not alone --order 0,1,0,0,1,1\n== thread 0: waits\n== thread 1: waits\n== memory\ntaken = 1\ninside = 2\nentered = 0\ntxc: each property has its answer, so the search stopped; --keep-going continues it\n",
         ),
         (
             "txc outcomes examples/properties/philosophers.c --threads 3 --always neighbours_wait",
@@ -323,14 +323,14 @@ fn first_transcripts() -> &'static [Transcript] {
             b"// A queue of two places: even threads put in three numbers, odd ones take three. Threads wait for a place or a number.\nint slots[2], head, count, sum;\n\nint within(void) { return count >= 0 && count <= 2; }\nint all_taken(void) { return count == 0 && sum % 6 == 0; }\n\nvoid worker(int self) {\n    int i, done;\n    for (i = 1; i <= 3; i++) {\n        do {\n            __transaction_atomic {\n                if (self % 2 == 0) {\n                    done = count < 2;\n                    if (done) { slots[(head + count) % 2] = i; count = count + 1; }\n                } else {\n                    done = count > 0;\n                    if (done) { sum = sum + slots[head]; head = (head + 1) % 2; count = count - 1; }\n                }\n            }\n        } while (!done);\n    }\n}\n",
             b"",
             b"",
-            b"== always within: states 1275\n== final all_taken: outcomes 2\n",
+            b"== always within: states 225\n== final all_taken: outcomes 2\n",
         ),
         (
             "txc outcomes examples/properties/queue_broken.c --threads 2 --always within",
             b"// One transaction checks for a free place and the next one fills it: two threads may fill the last one.\nint slots[2], head, count, sum;\n\nint within(void) { return count >= 0 && count <= 2; }\n\nvoid worker(int self) {\n    int i, done;\n    for (i = 1; i <= 2; i++) {\n        __transaction_atomic { done = count < 2; }\n        if (done) {\n            __transaction_atomic { slots[(head + count) % 2] = i; count = count + 1; }\n        }\n    }\n    __transaction_atomic {\n        if (count > 0) { sum = sum + slots[head]; head = (head + 1) % 2; count = count - 1; }\n    }\n}\n",
             b"",
             b"",
-            b"== not within --order 0,0,0,1,0,1\n== thread 0: waits\n== thread 1: waits\n== memory\nslots = 1 2\nhead = 0\ncount = 3\nsum = 0\n",
+            b"== not within --order 0,0,0,1,0,1\n== thread 0: waits\n== thread 1: waits\n== memory\nslots = 1 2\nhead = 0\ncount = 3\nsum = 0\ntxc: each property has its answer, so the search stopped; --keep-going continues it\n",
         ),
         (
             "txc outcomes examples/properties/lock.c --always alone,free",
@@ -351,7 +351,7 @@ fn first_transcripts() -> &'static [Transcript] {
             b"// Two seats, and buyers who check in one transaction and buy in the next: three of them can buy three seats.\nint seats = 2, sold;\n\nint no_seat_twice(void) { return sold + seats == 2 && seats >= 0; }\n\nvoid worker(int self) {\n    int free;\n    __transaction_atomic { free = seats > 0; }\n    if (free) {\n        __transaction_atomic {\n            seats = seats - 1;\n            sold = sold + 1;\n        }\n    }\n}\n",
             b"",
             b"",
-            b"== not no_seat_twice --order 0,0,1,2,1,2\n== thread 0: ended\n== thread 1: ended\n== thread 2: ended\n== memory\nseats = -1\nsold = 3\n",
+            b"== not no_seat_twice --order 0,0,1,2,1,2\n== thread 0: ended\n== thread 1: ended\n== thread 2: ended\n== memory\nseats = -1\nsold = 3\ntxc: each property has its answer, so the search stopped; --keep-going continues it\n",
         ),
         (
             "txc outcomes examples/properties/seats_broken.c --threads 2 --always no_seat_twice",
@@ -580,7 +580,7 @@ fn third_transcripts() -> &'static [Transcript] {
             b"// A ticket lock made of transactions: each thread takes a number, waits in a loop until it is served, and enters twice.\n// `most` is the largest number of threads that were inside at one time.\nint next, serving, inside, most, entered;\n\nvoid worker(int self) {\n    int i, mine, mine_now;\n    for (i = 0; i < 2; i++) {\n        __transaction_atomic { mine = next; next = next + 1; }\n        do {\n            __transaction_atomic { mine_now = serving == mine; }\n        } while (!mine_now);\n        __transaction_atomic { inside = inside + 1; if (inside > most) most = inside; }\n        __transaction_atomic { inside = inside - 1; entered = entered + 1; serving = serving + 1; }\n    }\n}\n",
             b"",
             b"",
-            b"== outcome --order 0,0,0,0,0,0,0,0,1,1,1,1,1,1,1,1\n== thread 0: ended\n== thread 1: ended\n== memory\nnext = 4\nserving = 4\ninside = 0\nmost = 1\nentered = 4\n== outcomes: 1, stuck: 0, states: 100\n",
+            b"== outcome --order 0,0,0,0,0,0,0,0,1,1,1,1,1,1,1,1\n== thread 0: ended\n== thread 1: ended\n== memory\nnext = 4\nserving = 4\ninside = 0\nmost = 1\nentered = 4\n== outcomes: 1, stuck: 0, states: 69\n",
         ),
         (
             "txc outcomes examples/audit.c --threads 2 --refines examples/audit_mended.c",

@@ -5,7 +5,7 @@ use std::thread::Threads;
 use test_serving::{Row, wrong_row};
 
 fn property_rows() -> &'static [Row] {
-    static ROWS: [Row; 15] = [
+    static ROWS: [Row; 17] = [
         // holds in each state; and in each outcome
         (
             "txc outcomes a.c --threads 2 --always small --final done",
@@ -48,15 +48,36 @@ fn property_rows() -> &'static [Row] {
                 b"",
             ),
         ),
-        // fails in a state of a cycle alone: each thread turns round for ever
+        // fails in a state of a cycle alone, since no thread ends: the search stops there
         (
             "txc outcomes a.c --threads 2 --always not_five",
             b"int x; int not_five(void) { return x != 5; } void worker(int self) { while (1) { __transaction_atomic { x = (x + 1) % 7; } } }",
             b"",
             (
                 5,
-                b"== not not_five --order 1,1,1,1,1\n== thread 0: waits\n== thread 1: waits\n== memory\nx = 5\n== stuck --order ''\n== thread 0: waits\n== thread 1: waits\n== memory\nx = 0\n",
+                b"== not not_five --order 0,0,0,0,0\n== thread 0: waits\n== thread 1: waits\n== memory\nx = 5\n",
                 b"",
+            ),
+        ),
+        (
+            "txc outcomes a.c --threads 2 --always not_five --keep-going",
+            b"int x; int not_five(void) { return x != 5; } void worker(int self) { while (1) { __transaction_atomic { x = (x + 1) % 7; } } }",
+            b"",
+            (
+                5,
+                b"== not not_five --order 0,0,0,0,0\n== thread 0: waits\n== thread 1: waits\n== memory\nx = 5\n== stuck --order ''\n== thread 0: waits\n== thread 1: waits\n== memory\nx = 0\n",
+                b"",
+            ),
+        ),
+        // the shortest order, though thread 0 alone could go on for longer; on a terminal the option is named
+        (
+            "txc outcomes a.c --threads 2 --always below --verbose",
+            b"int x; int below(void) { return x != 9; } void worker(int self) { int i; if (self) { __transaction_atomic { x = 9; } } else { for (i = 0; i < 9; i++) { __transaction_atomic { x = x + 1; } } } }",
+            b"",
+            (
+                5,
+                b"== not below --order 1\n== thread 0: waits\n== thread 1: ended\n== memory\nx = 9\n",
+                b"txc: each property has its answer, so the search stopped; --keep-going continues it\n",
             ),
         ),
         // what it writes is gone, and what it cancels too; it may begin transactions and call
@@ -111,7 +132,7 @@ fn property_rows() -> &'static [Row] {
             b"",
             (
                 5,
-                b"== not none --order 1\n== thread 0: waits\n== thread 1: ended\n== memory\nx = 1\n",
+                b"== not none --order 0\n== thread 0: ended\n== thread 1: waits\n== memory\nx = 1\n",
                 b"",
             ),
         ),

@@ -6,7 +6,7 @@ use crate::walked::{code_of, walk_of, walk_within};
 use std::alloc::{Allocator, Global};
 use test_memory::{Refusing, growths};
 use test_programs::accepted_of;
-use walks::{Walk, ends_of, first_stuck};
+use walks::{Strategy, Walk, ends_of, first_stuck};
 
 /// Whether a walk at a limit has as many states, and is whole where there are no more than twelve.
 fn is_cut<A: Allocator + Copy>(walk: &Walk<A>, limit: usize) -> bool {
@@ -40,7 +40,7 @@ fn a_limit_is_met(rt: HostRuntime) {
 fn is_cut_within<A: Allocator + Copy>(alloc: A, bytes: u64, states: usize) -> Option<bool> {
     let accepted = accepted_of(alloc, ADDS)?;
     let code = code_of(alloc, &accepted)?;
-    match walk_within(alloc, &code, 2, 100, bytes) {
+    match walk_within(alloc, &code, 2, Strategy::DepthFirst, 100, bytes) {
         Ok(Some(walk)) => Some(
             walk.states() == states && walk.is_whole() == (states == 12) && !walk.is_long(),
         ),

@@ -4,6 +4,8 @@
 #[cfg(test)]
 mod asserted;
 #[cfg(test)]
+mod breadth;
+#[cfg(test)]
 mod counted;
 #[cfg(test)]
 mod cut;

@@ -8,7 +8,7 @@ use bytecode::Code;
 use lower::lower;
 use separation::Accepted;
 use std::alloc::{AllocError, Allocator};
-use walks::{Progress, Walk, walk_states};
+use walks::{Progress, Search, Strategy, Walk, walk_states};
 
 /// How many states were told last, and how many bytes a walk may take.
 #[derive(Drop)]
@@ -17,9 +17,9 @@ struct Told {
     most: u64,
 }
 
-impl Progress for Told {
-    fn tell(&mut self, states: usize, bytes: u64) -> bool {
-        self.states = states;
+impl<A: Allocator + Copy> Progress<A> for Told {
+    fn tell(&mut self, walk: &Walk<A>, bytes: u64) -> bool {
+        self.states = walk.states();
         bytes <= self.most
     }
 }
@@ -46,7 +46,7 @@ pub fn walk_of<A: Allocator + Copy>(
 ) -> Result<Option<Walk<A>>, AllocError>
     ensures { IfOk result (λ r. IfSome r (IsWalk code.now)) }
 {
-    walk_within(alloc, code, threads, limit, u64::MAX)
+    walk_within(alloc, code, threads, Strategy::DepthFirst, limit, u64::MAX)
 }
 
 /// The same walk, for which so many bytes are there.
@@ -54,6 +54,7 @@ pub fn walk_within<A: Allocator + Copy>(
     alloc: A,
     code: &Code<A>,
     threads: u32,
+    strategy: Strategy,
     limit: u32,
     bytes: u64,
 ) -> Result<Option<Walk<A>>, AllocError>
@@ -72,9 +73,12 @@ pub fn walk_within<A: Allocator + Copy>(
         code,
         memory.as_slice(),
         threads,
-        1000,
-        limit,
-        7,
+        Search {
+            strategy,
+            steps: 1000,
+            limit,
+            key: 7,
+        },
         &mut told,
     )
 }
