@@ -198,7 +198,7 @@ module _ (z : TableId) (key : Setup) (w : World Configuration) (heard : List (Li
 
 -- ---- the words
 
-free_words : (m0 : Memory) (w : World Configuration) (es : List Entry) → w.lock % 2 ≡ 0 → IsFree m0 w es ⊎ IsHeld m0 w es → w.words ≡ last_memory m0 (run_of es)
+pub free_words : (m0 : Memory) (w : World Configuration) (es : List Entry) → w.lock % 2 ≡ 0 → IsFree m0 w es ⊎ IsHeld m0 w es → w.words ≡ last_memory m0 (run_of es)
 free_words m0 w es even (inl f) = f.words
 free_words m0 w es even (inr h) = let l : w.lock ≡ 2 * count_takers es + 1 = h.lock in absurd (omega (arith, l, even))
 

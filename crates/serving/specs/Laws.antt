@@ -1,8 +1,15 @@
 -- Laws of reports, what a report says of the machine and what it says of the source, and of refusals.
-use Rattle.std.specs.Prelude.{◌≡◌, ◌≤◌, ℕ, List, Option, None, Contains, is_some, false, true}
-use Rattle.syntax.specs.Grammar.{deepest_program, source_depth}
+use Rattle.std.specs.Prelude.{◌≡◌, ◌≤◌, ◌%◌, ◌^◌, ℕ, List, ◌∷◌, Option, None, Contains, is_some, false, true}
+use Rattle.syntax.specs.Grammar.{ParsedSource, deepest_program, source_depth}
+use Rattle.syntax.specs.Names.{initial_memory}
 use Rattle.syntax.specs.Tree.{Program}
-use Rattle.bytecode.specs.Code.{Code}
+use Rattle.bytecode.specs.Beginning.{beginning}
+use Rattle.bytecode.specs.Code.{Code, effect}
+use Rattle.bytecode.specs.Valid.{IsValid}
+use Rattle.machine.specs.Serializable.{world_after}
+use Rattle.shared_words.specs.Rule.{IsRuled}
+use Rattle.shared_words.specs.Setup.{Setup}
+use Rattle.shared_words.specs.Views.{Views}
 use Rattle.world.specs.declared.stop.WorldStop.{WorldStop}
 use Rattle.replay.specs.declared.line.Line.{Line}
 use Rattle.command.specs.declared.request.Steps.{Steps}
@@ -10,13 +17,17 @@ use Rattle.report.specs.Printed.{Printed}
 use Rattle.report.specs.OutcomeList.{ReportedOrder, reports}
 use Rattle.lower.specs.Answers.{span_of}
 use Rattle.lower.specs.declared.fault.LowerFault.{LowerFault}
-use Rattle.serving.specs.Checks.{Accepts}
+use Rattle.refinements.specs.ShownBy.{IsShownBy}
+use Rattle.serving.specs.Checks.{Accepts, IsSourceOf}
 use Rattle.serving.specs.Codes.{IsCodeOf}
 use Rattle.serving.specs.Limits.{HasNoCode, PassesLimit}
 use Rattle.serving.specs.Refusals.{IsRefused}
 use Rattle.serving.specs.Reports.{has_stopped}
-use Rattle.serving.specs.Orders.{LeavesSomeOrder, RunsInSomeOrder}
-use Rattle.serving.specs.Outcomes.{AreAllOutcomes}
+use Rattle.serving.specs.Orders.{IsOrderOf, LeavesSomeOrder, RunsInSomeOrder}
+use Rattle.serving.specs.Outcomes.{AreAllOutcomes, IsOutcomeOf}
+use Rattle.serving.specs.Properties.{AlwaysHolds, HoldsAtLast, HoldsOf}
+use Rattle.serving.specs.Refines.{Refines}
+use Rattle.states.specs.Shown.{memory_in}
 use Rattle.serving.specs.Runs.{IsConcurrentRun, RunsConcurrently}
 use Rattle.serving.specs.Replays.{IsReplayOf, Replays, behind_events}
 
@@ -53,6 +64,42 @@ OrdersAreListed =
     (threads : ℕ) (text : List ℕ) (outcomes : List ReportedOrder) (shown : Printed) →
     AreAllOutcomes threads text outcomes → RunsInSomeOrder threads text shown → has_stopped shown ≡ false →
     Contains (reports outcomes) shown
+
+-- what always holds of a program holds of the words of every world that steps of the machine lead to, in which the lock
+-- is free
+abbrev pub PropertiesHoldInWorlds : Type 0
+PropertiesHoldInWorlds =
+    (p : Program) (code : Code) (threads : ℕ) (steps x : List ℕ) → IsValid code → IsCodeOf p code → threads ≤ 2 ^ 32 →
+    AlwaysHolds p threads x →
+    (world_after (effect code) (beginning code) (initial_memory p) threads steps).lock % 2 ≡ 0 →
+    HoldsOf p x (world_after (effect code) (beginning code) (initial_memory p) threads steps).words
+
+-- and of the words that real threads share, at every moment at which the lock is free
+abbrev pub PropertiesHoldOfSharedWords : Type 0
+PropertiesHoldOfSharedWords =
+    (p : Program) (key : Setup) (lock : ℕ) (words x : List ℕ) (views : Views) → IsCodeOf p key.code →
+    key.threads ≤ 2 ^ 32 → AlwaysHolds p key.threads x → IsRuled key (lock ∷ words) views → lock % 2 ≡ 0 →
+    HoldsOf p x words
+
+-- what is shown is the report of an order, and this holds of the memory that the order leaves
+abbrev pub HoldsInReport : Program → (threads : ℕ) → (name : List ℕ) → Printed → Type 0
+HoldsInReport p threads x shown = (ticks : ℕ) × (order : List ℕ) × IsOrderOf p threads ticks order shown
+    × HoldsOf p x (memory_in p threads ticks order)
+
+-- what holds of a program where all threads are over holds in each report in which each thread has ended or trapped
+abbrev pub PropertiesHoldInReports : Type 0
+PropertiesHoldInReports =
+    (threads : ℕ) (text x : List ℕ) (source : ParsedSource) (shown : Printed) → IsSourceOf text source →
+    HoldsAtLast source.program threads x → RunsInSomeOrder threads text shown → has_stopped shown ≡ false →
+    HoldsInReport source.program threads x shown
+
+-- each report of a program that refines another, in which each thread has ended or trapped, is shown by an outcome of
+-- the other
+abbrev pub RefinedReportsAreOutcomes : Type 0
+RefinedReportsAreOutcomes =
+    (threads : ℕ) (text : List ℕ) (this : ParsedSource) (that : Program) (shown : Printed) → IsSourceOf text this →
+    Refines this.program that threads → RunsInSomeOrder threads text shown → has_stopped shown ≡ false →
+    (u : ReportedOrder) × IsOutcomeOf that threads u × IsShownBy shown u.shown
 
 -- an accepted program within the depth is not refused
 abbrev pub AcceptedAreNotRefused : Type 0

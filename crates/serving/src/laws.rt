@@ -13,6 +13,8 @@ ghost use Rattle.serving.specs.Certified.{OneReportIsPrinted};
 ghost use Rattle.serving.specs.Codes.{IsCodeOf};
 ghost use Rattle.serving.specs.Laws.{AcceptedAreNotRefused, AcceptedPassLimits, ConcurrentRunsAreOrders};
 ghost use Rattle.serving.specs.Laws.{ConcurrentRunsLeaveOrders, OrdersAreListed, ReplaysAreOrders, ReplaysLeaveOrders};
+ghost use Rattle.serving.specs.Laws.{PropertiesHoldInReports, PropertiesHoldInWorlds, PropertiesHoldOfSharedWords};
+ghost use Rattle.serving.specs.Laws.{RefinedReportsAreOutcomes};
 ghost use Rattle.serving.specs.Possible.{OrdersAreReplays, OutcomesAreDone};
 
 use bytecode::laws::valid_code_fits_its_cells;
@@ -74,6 +76,37 @@ pub fn orders_are_replays()
     ensures replays { OrdersAreReplays }
     ensures outcomes { OutcomesAreDone }
 {}
+
+/// Every run keeps what `--always` confirms. A function that holds of the memory that each order leaves holds of shared
+/// memory whenever the lock is free: in every world that steps of the machine lead to, and so, by the rule of
+/// `shared_words`, between any two atomic steps of real threads. A thread that has the lock may have stored a part of what
+/// its transaction leaves, so nothing is said of that time.
+pub fn properties_hold_in_every_world()
+    ensures worlds { PropertiesHoldInWorlds }
+    ensures threads { PropertiesHoldOfSharedWords }
+{
+    valid_code_fits_its_cells();
+    threads_leave_memories();
+}
+
+/// Every report keeps what `--final` confirms. A function that holds of the memory that each order leaves in which all
+/// threads are over holds of the last memory of each report in which each thread has ended or trapped. `txc run` prints
+/// such reports with exit status 0 or 3 (`reports_are_orders`).
+pub fn properties_hold_in_reports()
+    ensures { PropertiesHoldInReports }
+{
+    one_list_of_tokens();
+    one_tree();
+}
+
+/// Every report keeps what `--refines` confirms. If one program refines another, an outcome of the other shows each report
+/// of the first in which each thread has ended or trapped, and so whatever `txc run` prints of it with exit status 0 or 3.
+pub fn refined_reports_are_outcomes()
+    ensures { RefinedReportsAreOutcomes }
+{
+    one_list_of_tokens();
+    one_tree();
+}
 
 /// An accepted program that lies no deeper than a program may (fault 11) has no fault of its source: what makes no code
 /// does not refuse it. What makes code refuses it for a limit of code alone.
