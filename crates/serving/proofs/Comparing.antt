@@ -20,7 +20,7 @@ use Rattle.serving.specs.Checks.{IsSourceOf}
 use Rattle.serving.specs.Compared.{ComparesOutcomes, Confirms, Denies, HaveNoCode, WritesComparison}
 use Rattle.serving.specs.Expected.{SaysExpected, ShowsUnexpected}
 use Rattle.serving.specs.Limits.{HasNoCode}
-use Rattle.serving.specs.Outcomes.{AreOutcomesOf, IsListEnding, IsListOfOutcomes, IsOutcomeOf}
+use Rattle.serving.specs.Outcomes.{AreOutcomesOf, IsListEnding, IsOutcomeOf}
 use Rattle.serving.specs.Refines.{AreSourcesOf, IsBeyond, Refines, SaysRefined, SaysRefines, ShowsBeyond, ShowsOther}
 use Rattle.serving.specs.Refusals.{IsRefused}
 use Rattle.serving.specs.Reports.{has_stopped}
@@ -69,32 +69,40 @@ module _ (c : Comparison) (file : String Global) (name text : List ℕ) (other :
       subst (λ a. IfSome other (λ bytes. WritesPart (IsEither (Confirms a c.threads text bytes) (Denies a c.threads text bytes)) old new)) (sym is) this
 
 module _ (c : Comparison) (file : String Global) (text : List ℕ) (other : Option (List ℕ)) where
-  pub compares_expected : (status : ℕ) (old new : Option (List ℕ)) → c.against ≡ Expected file → IfSome other (λ bytes. Tells (SaysExpected (IsListOfOutcomes c.threads text) bytes) (ShowsUnexpected (IsListEnding Whole c.threads text) bytes) status old new) → ComparesOutcomes c other text status old new
+  pub compares_expected : (status : ℕ) (old new : Option (List ℕ)) → c.against ≡ Expected file → IfSome other (λ bytes. Tells (SaysExpected (IsListEnding Whole c.threads text) bytes) (ShowsUnexpected (IsListEnding Whole c.threads text) bytes) status old new) → ComparesOutcomes c other text status old new
   compares_expected status old new is t = subst (λ a. IfSome other (λ bytes. Tells (Confirms a c.threads text bytes) (Denies a c.threads text bytes) status old new)) (sym is) t
 
-  pub comparison_expected : (old new : Option (List ℕ)) → c.against ≡ Expected file → IfSome other (λ bytes. WritesPart (IsEither (SaysExpected (IsListOfOutcomes c.threads text) bytes) (ShowsUnexpected (IsListEnding Whole c.threads text) bytes)) old new) → WritesComparison c other text old new
+  pub comparison_expected : (old new : Option (List ℕ)) → c.against ≡ Expected file → IfSome other (λ bytes. WritesPart (IsEither (SaysExpected (IsListEnding Whole c.threads text) bytes) (ShowsUnexpected (IsListEnding Whole c.threads text) bytes)) old new) → WritesComparison c other text old new
   comparison_expected old new is w = subst (λ a. IfSome other (λ bytes. WritesPart (IsEither (Confirms a c.threads text bytes) (Denies a c.threads text bytes)) old new)) (sym is) w
 
 -- ---- lists that are expected
 
-module _ (Is IsList Full IsWhole : List ℕ → Type 0) (so : (text : List ℕ) → Is text → IsList text) (full : (text : List ℕ) → Full text → IsWhole text) where
-  expected_so : (bytes w : List ℕ) → SaysExpected Is bytes w → SaysExpected IsList bytes w
+module _ (Is IsWhole : List ℕ → Type 0) (so : (text : List ℕ) → Is text → IsWhole text) where
+  expected_so : (bytes w : List ℕ) → SaysExpected Is bytes w → SaysExpected IsWhole bytes w
   expected_so bytes w s = (so bytes s.0, s.1)
 
-  unexpected_so : (bytes w : List ℕ) → ShowsUnexpected Full bytes w → ShowsUnexpected IsWhole bytes w
-  unexpected_so bytes w s = (s.0, s.1, full s.0 s.2, s.3, s.4)
+  unexpected_so : (bytes w : List ℕ) → ShowsUnexpected Is bytes w → ShowsUnexpected IsWhole bytes w
+  unexpected_so bytes w s = (s.0, s.1, so s.0 s.2, s.3, s.4)
 
   -- the list that was compared is one
-  pub expected_served : (Refuses : Type 0) (known : Option (List ℕ)) (status : ℕ) (old new : Option (List ℕ)) → ServesExpected Is Full ⊥ known status old new → ServesExpected IsList IsWhole Refuses known status old new
+  pub expected_served : (Refuses : Type 0) (known : Option (List ℕ)) (status : ℕ) (old new : Option (List ℕ)) → ServesExpected Is ⊥ known status old new → ServesExpected IsWhole Refuses known status old new
   expected_served Refuses known status old new s =
-      either_served (SaysExpected Is) (ShowsUnexpected Full) (SaysExpected IsList) (ShowsUnexpected IsWhole) expected_so unexpected_so Refuses known status old new s
+      either_served (SaysExpected Is) (ShowsUnexpected Is) (SaysExpected IsWhole) (ShowsUnexpected IsWhole) expected_so unexpected_so Refuses known status old new s
 
--- the first line was printed in which a list differs that is all
-pub unexpected_shown : (IsAll : Type 0) (list expected : List ℕ) (at : ℕ) (told : List ℕ) → IsFirstDifference expected list at → told ≡ difference_text (codes "expected") (codes "found") expected list at → (status : ℕ) (old new : Option (List ℕ)) → PrintsEither (λ (w : List ℕ). ⊥) (λ (w : List ℕ). IsAll × (w ≡ told)) status old new → ServesExpected (λ t. t ≡ list) (λ t. IsAll × (t ≡ list)) ⊥ (Some expected) status old new
-unexpected_shown IsAll list expected at told first is status old new s =
-    let shown = prints_so (λ (w : List ℕ). ⊥) (λ (w : List ℕ). IsAll × (w ≡ told)) (SaysExpected (λ t. t ≡ list) expected) (ShowsUnexpected (λ t. IsAll × (t ≡ list)) expected)
-    (λ w no. absurd no) (λ w so. (list, at, (so.0, refl), first, so.1 ∙ is)) status old new s in
-    serves_so shown (λ says. says) (λ writes. writes)
+module _ (IsAll : Type 0) (list expected : List ℕ) (status : ℕ) (old new : Option (List ℕ)) where
+  -- it was said that a list is the one that is expected, which is all
+  pub expected_said : list ≡ expected → PrintsEither (λ (w : List ℕ). IsAll × (w ≡ codes "as expected\n")) (λ (w : List ℕ). ⊥) status old new → ServesExpected (λ t. IsAll × (t ≡ list)) ⊥ (Some expected) status old new
+  expected_said same s =
+      let said = prints_so (λ (w : List ℕ). IsAll × (w ≡ codes "as expected\n")) (λ (w : List ℕ). ⊥) (SaysExpected (λ t. IsAll × (t ≡ list)) expected) (ShowsUnexpected (λ t. IsAll × (t ≡ list)) expected)
+      (λ w so. ((so.0, sym same), so.1)) (λ w no. absurd no) status old new s in
+      serves_so said (λ says. says) (λ writes. writes)
+
+  -- the first line was printed in which a list differs that is all
+  pub unexpected_shown : (at : ℕ) (told : List ℕ) → IsFirstDifference expected list at → told ≡ difference_text (codes "expected") (codes "found") expected list at → PrintsEither (λ (w : List ℕ). ⊥) (λ (w : List ℕ). IsAll × (w ≡ told)) status old new → ServesExpected (λ t. IsAll × (t ≡ list)) ⊥ (Some expected) status old new
+  unexpected_shown at told first is s =
+      let shown = prints_so (λ (w : List ℕ). ⊥) (λ (w : List ℕ). IsAll × (w ≡ told)) (SaysExpected (λ t. IsAll × (t ≡ list)) expected) (ShowsUnexpected (λ t. IsAll × (t ≡ list)) expected)
+      (λ w no. absurd no) (λ w so. (list, at, (so.0, refl), first, so.1 ∙ is)) status old new s in
+      serves_so shown (λ says. says) (λ writes. writes)
 
 -- ---- outcomes that are another program's
 

@@ -6,7 +6,7 @@ use Rattle.command.specs.declared.request.Comparison.{Comparison}
 use Rattle.serving.specs.Expected.{SaysExpected, ShowsUnexpected}
 use Rattle.serving.specs.Limits.{HasNoCode}
 use Rattle.report.specs.declared.outcome_list.WalkEnd.TheVariants.{Whole}
-use Rattle.serving.specs.Outcomes.{IsListEnding, IsListOfOutcomes}
+use Rattle.serving.specs.Outcomes.{IsListEnding}
 use Rattle.serving.specs.Refines.{SaysRefined, ShowsOther}
 use Rattle.serving.specs.Verdicts.{IsEither, Tells}
 use Rattle.serving.specs.Written.{WritesPart}
@@ -19,7 +19,7 @@ name_of (Expected file) = string_bytes file
 -- it is said that it is so, of a text and of what is in that file
 abbrev pub Confirms : Against → (count : ℕ) → (text other written : List ℕ) → Type 0
 Confirms (Refined file) count text other written = SaysRefined (string_bytes file) count text other written
-Confirms (Expected file) count text other written = SaysExpected (IsListOfOutcomes count text) other written
+Confirms (Expected file) count text other written = SaysExpected (IsListEnding Whole count text) other written
 
 -- it is shown where it is not
 abbrev pub Denies : Against → (count : ℕ) → (text other written : List ℕ) → Type 0

@@ -2,9 +2,9 @@
 use Rattle.std.specs.Prelude.{◌≡◌, ℕ, List, codes}
 use Rattle.differences.specs.Texts.{IsFirstDifference, difference_text}
 
--- it is said that this is the list
-abbrev pub SaysExpected : (IsList : List ℕ → Type 0) → (expected written : List ℕ) → Type 0
-SaysExpected IsList expected written = IsList expected × (written ≡ codes "as expected\n")
+-- it is said that this is the list of all outcomes
+abbrev pub SaysExpected : (IsWhole : List ℕ → Type 0) → (expected written : List ℕ) → Type 0
+SaysExpected IsWhole expected written = IsWhole expected × (written ≡ codes "as expected\n")
 
 -- the first line is shown in which the list of all outcomes differs from this one
 abbrev pub ShowsUnexpected : (IsWhole : List ℕ → Type 0) → (expected written : List ℕ) → Type 0

@@ -133,17 +133,24 @@ pub(crate) fn is_whole<A: Allocator>(found: &OutcomesFound<A>) -> bool
     found.end == WalkEnd::Whole
 }
 
-/// Says at what the walk over the states of the program in a file was stopped, and where lines are wanted which option
-/// lets it go on.
-pub(crate) fn tell_stopped<E: Write>(name: &str, end: WalkEnd, teller: &mut Teller<'_, E>) -> u8
+/// Says at what the walk over the states of the program in a file was stopped, behind the words `so_far`, and where
+/// lines are wanted which option lets it go on.
+pub(crate) fn tell_stopped<E: Write>(
+    name: &str,
+    so_far: &str,
+    end: WalkEnd,
+    teller: &mut Teller<'_, E>,
+) -> u8
     ensures { result ≡ 4 }
 {
     let _ = teller.err.write_all(b"txc: ");
     let _ = write_shown(name, "", teller.err);
+    let _ = teller.err.write_all(b": ");
+    let _ = teller.err.write_all(so_far.as_bytes());
     let _ = match end {
-        WalkEnd::AtSteps => teller.err.write_all(b": stopped at the steps\n"),
-        WalkEnd::AtMemory => teller.err.write_all(b": stopped at the memory\n"),
-        WalkEnd::Whole | WalkEnd::AtLimit => teller.err.write_all(b": stopped at the limit\n"),
+        WalkEnd::AtSteps => teller.err.write_all(b"stopped at the steps\n"),
+        WalkEnd::AtMemory => teller.err.write_all(b"stopped at the memory\n"),
+        WalkEnd::Whole | WalkEnd::AtLimit => teller.err.write_all(b"stopped at the limit\n"),
     };
     if teller.detail.lines {
         tell_stop(end, teller.err);

@@ -1,9 +1,9 @@
 //! Whether a list of outcomes is the one that is expected.
 
-ghost use Rattle.std.specs.Prelude.{◌≡◌, Some};
+ghost use Rattle.std.specs.Prelude.{◌≡◌, Some, codes};
 ghost use Rattle.serving.specs.Limits.{HasNoCode};
 ghost use Rattle.report.specs.declared.outcome_list.WalkEnd.TheVariants.{Whole};
-ghost use Rattle.serving.specs.Outcomes.{IsListEnding, IsListOfOutcomes};
+ghost use Rattle.serving.specs.Outcomes.{IsListEnding};
 ghost use Rattle.serving.specs.inner.Compared.{list_of};
 ghost use Rattle.serving.specs.inner.Serves.{PrintsEither, ServesExpected};
 
@@ -30,8 +30,8 @@ pub(crate) fn expect<A: Allocator + Copy, Q: Read + Drop, W: Write, E: Write>(
     out: &mut W,
     teller: &mut Teller<'_, E>,
 ) -> u8
-    ensures { ServesExpected (IsListOfOutcomes limits.threads text.now) (IsListEnding Whole limits.threads text.now)
-        (HasNoCode text.now) (Q.remaining expected) result (W.contents out.old) (W.contents out.new) }
+    ensures { ServesExpected (IsListEnding Whole limits.threads text.now) (HasNoCode text.now) (Q.remaining expected)
+        result (W.contents out.old) (W.contents out.new) }
 {
     match list_outcomes(
         alloc,
@@ -57,8 +57,8 @@ fn expect_outcomes<A: Allocator + Copy, Q: Read + Drop, W: Write, E: Write>(
     out: &mut W,
     teller: &mut Teller<'_, E>,
 ) -> u8
-    ensures { ServesExpected (λ t. t ≡ list_of found.now) (λ t. (found.now.end ≡ Whole) × (t ≡ list_of found.now)) ⊥
-        (Q.remaining expected) result (W.contents out.old) (W.contents out.new) }
+    ensures { ServesExpected (λ t. (found.now.end ≡ Whole) × (t ≡ list_of found.now)) ⊥ (Q.remaining expected) result
+        (W.contents out.old) (W.contents out.new) }
 {
     match list_text(
         alloc,
@@ -82,8 +82,8 @@ fn expect_list<A: Allocator + Copy, Q: Read + Drop, W: Write, E: Write>(
     out: &mut W,
     teller: &mut Teller<'_, E>,
 ) -> u8
-    ensures { ServesExpected (λ t. t ≡ list.now) (λ t. (found.now.end ≡ Whole) × (t ≡ list.now)) ⊥
-        (Q.remaining expected) result (W.contents out.old) (W.contents out.new) }
+    ensures { ServesExpected (λ t. (found.now.end ≡ Whole) × (t ≡ list.now)) ⊥ (Q.remaining expected) result
+        (W.contents out.old) (W.contents out.new) }
 {
     match read_all(alloc, expected) {
         Ok(expected) => tell_expected(alloc, found, list, expected.as_slice(), out, teller),
@@ -100,13 +100,29 @@ fn tell_expected<A: Allocator + Copy, W: Write, E: Write>(
     out: &mut W,
     teller: &mut Teller<'_, E>,
 ) -> u8
-    ensures { ServesExpected (λ t. t ≡ list.now) (λ t. (found.now.end ≡ Whole) × (t ≡ list.now)) ⊥ (Some expected.now)
-        result (W.contents out.old) (W.contents out.new) }
+    ensures { ServesExpected (λ t. (found.now.end ≡ Whole) × (t ≡ list.now)) ⊥ (Some expected.now) result
+        (W.contents out.old) (W.contents out.new) }
 {
     match difference(alloc, b"expected", expected, b"found", list) {
-        Ok(None) => print_text(b"as expected\n", out, teller.err),
+        Ok(None) => tell_same(found, out, teller),
         Ok(Some(difference)) => tell_unexpected(found, difference.as_slice(), out, teller),
         Err(_) => out_of_memory(teller.err),
+    }
+}
+
+/// Says that a list of these outcomes is the one that is expected, where these are all: else more may come out.
+fn tell_same<A: Allocator, W: Write, E: Write>(
+    found: &OutcomesFound<A>,
+    out: &mut W,
+    teller: &mut Teller<'_, E>,
+) -> u8
+    ensures { PrintsEither (λ written. (found.now.end ≡ Whole) × (written ≡ codes "as expected\n")) (λ written. ⊥) result
+        (W.contents out.old) (W.contents out.new) }
+{
+    if is_whole(found) {
+        print_text(b"as expected\n", out, teller.err)
+    } else {
+        tell_stopped(teller.detail.file, "as expected, ", found.end, teller)
     }
 }
 
@@ -122,7 +138,7 @@ fn tell_unexpected<A: Allocator, W: Write, E: Write>(
         (W.contents out.old) (W.contents out.new) }
 {
     if !is_whole(found) {
-        return tell_stopped(teller.detail.file, found.end, teller);
+        return tell_stopped(teller.detail.file, "", found.end, teller);
     }
     match print(difference, out) {
         Ok(()) => REFUTED,

@@ -159,10 +159,10 @@ fn tell_found<A: Allocator + Copy, W: Write, E: Write>(
         (W.contents out.old) (W.contents out.new) }
 {
     if !is_whole(found) {
-        return tell_stopped(teller.detail.file, found.end, teller);
+        return tell_stopped(teller.detail.file, "", found.end, teller);
     }
     if !is_whole(others) {
-        return tell_stopped(name, others.end, teller);
+        return tell_stopped(name, "", others.end, teller);
     }
     match first_beyond(alloc, found.outcomes.as_slice(), others.outcomes.as_slice()) {
         Ok(Some(one)) => tell_beyond(alloc, name, one, out, teller.err),

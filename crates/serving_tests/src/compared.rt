@@ -325,7 +325,7 @@ fn programs_are_compared_where_both_are_walked(rt: HostRuntime) {
 
 /// Programs that are compared with lists.
 fn expected_rows() -> &'static [Row] {
-    static ROWS: [Row; 19] = [
+    static ROWS: [Row; 20] = [
         // the list as it was printed
         (
             EXPECTS,
@@ -333,7 +333,7 @@ fn expected_rows() -> &'static [Row] {
             b"== outcome --order 0,1\n== thread 0: ended\n== thread 1: ended\n== memory\nx = 1\n== outcome --order 1,0\n== thread 0: ended\n== thread 1: ended\n== memory\nx = 0\n== outcomes: 2, stuck: 0, states: 5\n",
             (0, b"as expected\n", b""),
         ),
-        // one in which a thread traps, one with a stuck order, one that was stopped
+        // one in which a thread traps, one with a stuck order
         (
             EXPECTS,
             TRAPS,
@@ -350,9 +350,9 @@ fn expected_rows() -> &'static [Row] {
             "txc outcomes a.c --threads 2 --expect b.c --limit 3",
             LAST,
             b"== outcomes: 0, stuck: 0, states: 3, stopped at the limit\n",
-            (0, b"as expected\n", b""),
+            (4, b"", b"txc: a.c: as expected, stopped at the limit\n"),
         ),
-        // of a walk that was stopped at the states or at the steps no list is refuted
+        // by a walk that was stopped at the states or at the steps no list is confirmed or refuted
         (
             "txc outcomes a.c --threads 2 --expect b.c --limit 3",
             LAST,
@@ -368,6 +368,12 @@ fn expected_rows() -> &'static [Row] {
                 b"",
                 b"txc: a.c: stopped at the limit\ntxc: --limit L is how many states it looks at\n",
             ),
+        ),
+        (
+            "txc outcomes a.c --expect b.c --steps 1000",
+            b"int x; void worker(int self) { __transaction_atomic { x = 5; } while (1) { } }",
+            b"== outcomes: 0, stuck: 0, states: 1, stopped at the steps\n",
+            (4, b"", b"txc: a.c: as expected, stopped at the steps\n"),
         ),
         (
             "txc outcomes a.c --expect b.c --steps 1000",

@@ -79,11 +79,11 @@ ServesEither IsSo IsNot Refuses bytes status old new =
     Serves 5 (λ s o n. IfSome bytes (λ other. Tells (IsSo other) (IsNot other) s o n)) Refuses
     (λ o n. IfSome bytes (λ other. WritesPart (IsEither (IsSo other) (IsNot other)) o n)) status old new
 
--- whether they are such a list, or where they differ from such a list of all outcomes
-abbrev pub ServesExpected : (IsList IsWhole : List ℕ → Type 0) → (Refuses : Type 0) → (bytes : Option (List ℕ)) →
+-- whether they are a list of all outcomes, or where they differ from one
+abbrev pub ServesExpected : (IsWhole : List ℕ → Type 0) → (Refuses : Type 0) → (bytes : Option (List ℕ)) →
     (status : ℕ) → (old new : Option (List ℕ)) → Type 0
-ServesExpected IsList IsWhole Refuses bytes status old new =
-    ServesEither (SaysExpected IsList) (ShowsUnexpected IsWhole) Refuses bytes status old new
+ServesExpected IsWhole Refuses bytes status old new =
+    ServesEither (SaysExpected IsWhole) (ShowsUnexpected IsWhole) Refuses bytes status old new
 
 -- whether they are a report that is due
 abbrev pub ServesVerdict : (IsDue : List ℕ → Type 0) → (Refuses : Type 0) → (bytes : Option (List ℕ)) →

@@ -3,7 +3,7 @@ use Rattle.report.specs.OutcomeList.{list_text}
 use Rattle.report.specs.Views.{reported_of}
 use Rattle.report.specs.declared.outcome_list.WalkEnd.TheVariants.{Whole}
 use Rattle.serving.specs.Limits.{HasNoCode}
-use Rattle.serving.specs.Outcomes.{AreOutcomesOfText, IsListEnding, IsListOfOutcomes}
+use Rattle.serving.specs.Outcomes.{AreOutcomesOfText, IsListEnding}
 use Rattle.serving.specs.inner.Compared.{list_of}
 use Rattle.serving.proofs.Comparing.{expected_served}
 use Rattle.serving.proofs.expected.expect.Goals as goal
@@ -15,7 +15,6 @@ returns-in-Ok g c =
     let stuck = map reported_of found.stuck.items in
     let threads = c.args.limits.threads in
     let text = c.args.text.now in
-    expected_served (λ t. t ≡ list_of found) (IsListOfOutcomes threads text) (λ t. (found.end ≡ Whole) × (t ≡ list_of found)) (IsListEnding Whole threads text)
-    (λ t is. (found.end, (outcomes, stuck, found.states, c.in-Ok.ensures.are, is)))
+    expected_served (λ t. (found.end ≡ Whole) × (t ≡ list_of found)) (IsListEnding Whole threads text)
     (λ t is. (outcomes, stuck, found.states, subst (λ e. AreOutcomesOfText threads text e outcomes stuck) is.0 c.in-Ok.ensures.are, subst (λ e. t ≡ list_text outcomes stuck found.states e) is.0 is.1))
     (HasNoCode text) (g.Q.Read.remaining c.args.expected) c.expect_outcomes.result _ _ c.expect_outcomes.ensures
