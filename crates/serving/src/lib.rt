@@ -3,8 +3,10 @@
 #![tactic(auto)]
 
 mod all_outcomes;
+mod answered;
 mod ask;
 mod askable;
+mod at_rest;
 mod certify;
 mod check;
 mod compared;
