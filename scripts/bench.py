@@ -5,6 +5,7 @@
 
     run            `txc run` and Lua on work of one thread; four threads that share no data, and one; `txc run` and GCC's
                    transactional memory with one and four threads
+    starving       one thread that reads much while three others commit; `txc run` and GCC's transactional memory
     replays        the longest replays that a seed names
     source         many turns of a source
     outcomes       all outcomes of small programs
@@ -203,7 +204,7 @@ ALL = [
     ('`examples/counter.c`', 'counter.c', 3, 'outcomes: 1, stuck: 0, states: 64'),
     ('`examples/counter.c`', 'counter.c', 8, 'outcomes: 1, stuck: 0, states: 65536'),
     ('`examples/locks.c`', 'locks.c', 2, 'outcomes: 1, stuck: 1, states: 13'),
-    ('`examples/ticket.c`', 'ticket.c', 4, 'outcomes: 1, stuck: 0, states: 22372'),
+    ('`examples/ticket.c`', 'ticket.c', 4, 'outcomes: 1, stuck: 0, states: 4905'),
     ('`examples/queue.c`', 'queue.c', 2, 'outcomes: 128, stuck: 0, states: 1208'),
     ('`examples/queue.c`', 'queue.c', 3, 'outcomes: 104919, stuck: 0, states: 642454'),
     (
@@ -280,6 +281,44 @@ def beside_libitm(program, rounds):
             table(program, title, names, 'libitm', rounds, threads, peer)
 
 
+# What one thread reads: how many cells, in how many transactions, and whether the other threads write to these cells.
+READS = [(64, 20000, False), (512, 2000, False), (4000, 200, False), (64, 2000, True), (512, 200, True), (4000, 20, True)]
+
+
+def reader(cells, times, are_written):
+    """The source of a thread that reads so many cells so often, while the others commit."""
+    with open(os.path.join(PEERS, 'reader.c'), encoding='utf-8') as file:
+        source = file.read().replace('i < 2000', f'i < {times}').replace('k < 512', f'k < {cells}')
+    place = f'a[self * 16 % {cells}]'
+    return source.replace('c[self] = c[self] + 1', f'{place} = {place} + 1') if are_written else source
+
+
+def starves(program, rounds):
+    """Prints how long one thread takes that reads much while three others commit until it is done: the median on the
+    clock. It says something only where each thread has a processor of its own: elsewhere a thread that loses its
+    processor lets the reader through."""
+    print('\nA thread that starves: one that reads, beside three that commit; time on the clock\n')
+    print('| Reads of the one thread | txc, ms | libitm, ms | txc / libitm |\n|---|---|---|---|')
+    with tempfile.TemporaryDirectory() as place:
+        text, built = os.path.join(place, 'reader.c'), os.path.join(place, 'reader')
+        for cells, times, are_written in READS:
+            with open(text, 'w', encoding='utf-8') as file:
+                file.write(reader(cells, times, are_written))
+            words = ['gcc', '-O2', '-fgnu-tm', '-pthread', text, os.path.join(PEERS, 'threads.c'), '-litm', '-o', built]
+            if not shutil.which('gcc') or subprocess.run(words, capture_output=True).returncode:
+                sys.exit(f'gcc with libitm does not compile {PEERS}/reader.c')
+            clocks = {'txc': [], 'libitm': []}
+            for _ in range(rounds):
+                _, clock, _, wrote = run([program, 'run', text, '--threads', '4'], {})
+                if values(wrote).get('done') != [1]:
+                    sys.exit(f'txc run of {PEERS}/reader.c left something else than it must:\n{wrote[:500]}')
+                clocks['txc'].append(clock)
+                clocks['libitm'].append(run([built, '4'], {})[1])
+            ours, theirs = (1000 * statistics.median(clocks[side]) for side in ('txc', 'libitm'))
+            of = 'that the others write' if are_written else 'that no other thread writes'
+            print(f'| {times:,} of {cells:,} cells {of} | {ours:.0f} | {theirs:.0f} | {ours / theirs:.1f} |')
+
+
 def runs(program, rounds):
     """Prints all that is measured of `txc run`."""
     for part in (beside_lua, apart, beside_libitm):
@@ -289,6 +328,7 @@ def runs(program, rounds):
 # Each case, and how many rounds it makes by default.
 CASES = {
     'run': (runs, 9),
+    'starving': (starves, 5),
     'replays': (replays, 9),
     'source': (turns, 9),
     'outcomes': (outcomes, 9),

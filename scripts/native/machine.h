@@ -5,6 +5,7 @@
 // acquire and stored with release, and fences stand where an order between two accesses has to be kept.
 
 #include <pthread.h>
+#include <sched.h>
 #include <stdatomic.h>
 #include <stdbool.h>
 #include <stdint.h>
@@ -48,8 +49,16 @@ struct global { const char *name; char type; uint32_t cells; };
 // The sequence lock and the words, in cache lines of their own.
 static _Alignas(128) _Atomic uint64_t lock;
 static _Alignas(128) _Atomic uint64_t words[CELLS + 1];
+// The thread that has the right of way, plus 1, or 0: the others wait for a while before they take the lock. A thread
+// claims it whose transaction was validated or aborted often.
+static _Alignas(128) _Atomic int right_of_way;
 // The thread that keeps the lock for good, plus 1: a growth was refused while it had it.
 static _Atomic int holder;
+
+// As in crates/workers/src/right_of_way.rt: after how many tries of a transaction its thread claims the right of way, at
+// most and at least, and as how many an abort counts; how often a thread looks whether another one still has it; and at
+// each how many of its looks a thread that waits gives its processor away.
+enum { MOST_PATIENCE = 64, LEAST_PATIENCE = 4, ABORT = 16, MOST_LOOKS = 20000, LOOKS = 128 };
 
 // A word that was read, or that is to be stored.
 struct entry { uint32_t cell; uint64_t word; };
@@ -65,6 +74,10 @@ struct thread {
     uint32_t attempt, written;
     // whether the lock is kept to the transaction's end, an outermost transaction is open, and effects are recorded
     bool keeps, is_inside, records;
+    // the tries of the transaction, after how many it claims the right of way, whether it has claimed it, and whether its
+    // last attempt was aborted
+    uint32_t tries, patience;
+    bool has_claimed, is_aborted;
     int end, number;
     uint64_t transactions, drops, retries;
     LIST(struct entry) reads;
@@ -111,11 +124,62 @@ INLINE void take_effect(struct thread *t, bool took_lock) {
     }
 }
 
+// Waits for a moment, by the number of the look at what another thread has taken.
+INLINE void wait_a_moment(uint64_t look) {
+    if (SELDOM(look % LOOKS == 0))
+        sched_yield();
+    else
+        PAUSE();
+}
+
+// Hands the right of way on if it is still this thread's: whether it was.
+APART bool hand_on(int from, int to) {
+    return atomic_load(&right_of_way) == from && atomic_compare_exchange_strong(&right_of_way, &from, to);
+}
+
+// Waits while another thread has the right of way. A thread that has waited long takes it away.
+APART void wait_for(const struct thread *t, int owner) {
+    if (owner == t->number + 1)
+        return;
+    for (uint64_t look = 1; look <= MOST_LOOKS; look++) {
+        if (atomic_load(&right_of_way) != owner)
+            return;
+        wait_a_moment(look);
+    }
+    hand_on(owner, 0);
+}
+
+// Counts tries of the transaction. After many of them its thread claims the right of way; one that has lost it claims it
+// again only after the most tries that there are.
+INLINE void count_tries(struct thread *t, uint32_t more) {
+    t->tries += more;
+    if (SELDOM(t->tries >= (t->has_claimed ? MOST_PATIENCE : t->patience)) && hand_on(0, t->number + 1)) {
+        t->has_claimed = true;
+        t->tries = 1;
+    }
+}
+
+// An attempt begins after tries: of the same transaction, if that was aborted. Else a transaction begins, and its thread
+// gives up the right of way.
+APART void begin_after_tries(struct thread *t) {
+    if (t->is_aborted) {
+        t->is_aborted = false;
+        return;
+    }
+    if (t->has_claimed) {
+        hand_on(t->number + 1, 0);
+        t->patience = t->patience / 2 > LEAST_PATIENCE ? t->patience / 2 : LEAST_PATIENCE;
+    } else {
+        t->patience = t->patience * 2 < MOST_PATIENCE ? t->patience * 2 : MOST_PATIENCE;
+    }
+    t->tries = 0;
+    t->has_claimed = false;
+}
+
 // load lock; again while it is odd. One that is kept for good is waited for no longer.
 INLINE int load_even(struct thread *t, uint64_t *even) {
     while (SELDOM((*even = atomic_load_explicit(&lock, LOAD)) & 1)) {
-        t->retries++;
-        PAUSE();
+        wait_a_moment(++t->retries);
         if (SELDOM(atomic_load_explicit(&holder, memory_order_relaxed))) {
             t->end = WAITING;
             return OVER;
@@ -132,13 +196,17 @@ INLINE int begin(struct thread *t) {
         t->attempt = 1;
     }
     t->is_inside = true;
+    if (SELDOM(t->tries))
+        begin_after_tries(t);
     return load_even(t, &t->snapshot);
 }
 
 // abort: the thread stands at its outermost begin again. It pauses before it begins anew.
 APART void dropped(struct thread *t) {
     t->drops++;
-    for (int i = 0; i < 32; i++)
+    t->is_aborted = true;
+    count_tries(t, ABORT);
+    for (int i = 0; i < 32 && !t->has_claimed; i++)
         PAUSE();
 }
 
@@ -149,6 +217,7 @@ APART int validate(struct thread *t) {
         uint64_t time;
         if (load_even(t, &time))
             return OVER;
+        count_tries(t, 1);
         for (size_t i = 0; i < t->reads.count; i++)
             if (atomic_load_explicit(&words[t->reads.items[i].cell], LOAD) != t->reads.items[i].word)
                 return DROPPED;
@@ -228,6 +297,9 @@ APART void back_to(struct thread *t, uint32_t written, size_t kept) {
 INLINE int take_lock(struct thread *t) {
     for (;;) {
         uint64_t from = t->snapshot;
+        int owner = atomic_load(&right_of_way);
+        if (SELDOM(owner))
+            wait_for(t, owner);
         if (atomic_compare_exchange_strong(&lock, &from, t->snapshot + 1))
             return DONE;
         int came = validate(t);

@@ -25,6 +25,7 @@ static void *run(void *given) {
     uint64_t result;
     pthread_barrier_wait(&start);
     f_worker(t, 0, 1, &result, (uint64_t)t->number);
+    hand_on(t->number + 1, 0);
     return NULL;
 }
 
@@ -33,6 +34,7 @@ static struct thread *made(int number, bool records) {
     if (t) {
         memset(t, 0, sizeof *t);
         t->number = number;
+        t->patience = MOST_PATIENCE;
         t->records = t->effects_are_whole = records;
     }
     return t;
@@ -113,6 +115,22 @@ static int next_of(const size_t *written, int count) {
     return least;
 }
 
+// The least next item of the other threads: up to it this thread's transactions come one behind the other.
+static uint64_t least_of_others(const size_t *written, int count, int thread) {
+    uint64_t least = UINT64_MAX;
+    for (int i = 0; i < count; i++)
+        if (i != thread && written[i] < threads[i]->effects.count && threads[i]->effects.items[written[i]] < least)
+            least = threads[i]->effects.items[written[i]];
+    return least;
+}
+
+// Writes a thread's number, of two digits at most. `fprintf` takes ten times as long.
+static void put_thread(FILE *file, int number) {
+    if (number >= 10)
+        putc_unlocked('0' + number / 10, file);
+    putc_unlocked('0' + number % 10, file);
+}
+
 static int write_order(const char *path, int count) {
     for (int i = 0; i < count; i++)
         if (!threads[i]->effects_are_whole)
@@ -121,9 +139,17 @@ static int write_order(const char *path, int count) {
     if (!file)
         return fail("the file of the order cannot be opened");
     size_t written[MOST_THREADS] = {0};
-    const char *before = "";
-    for (int it; (it = next_of(written, count)) >= 0; before = ",", written[it]++)
-        fprintf(file, "%s%d", before, it);
+    bool is_first = true;
+    for (int it; (it = next_of(written, count)) >= 0;) {
+        uint64_t least = least_of_others(written, count, it);
+        do {
+            if (!is_first)
+                putc_unlocked(',', file);
+            is_first = false;
+            put_thread(file, it);
+            written[it]++;
+        } while (written[it] < threads[it]->effects.count && threads[it]->effects.items[written[it]] < least);
+    }
     putc('\n', file);
     bool fails = ferror(file);
     return fclose(file) || fails ? fail("the order is not written whole") : 0;

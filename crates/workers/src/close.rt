@@ -182,6 +182,7 @@ pub(crate) fn gather<A: Allocator>(
     let Hall {
         table,
         setup: _setup,
+        right_of_way: _right_of_way,
     } = hall;
     let (seat, threads) = join_all(&table.shared, workers, threads);
     let words = shared_words::close(table, seat, cells);
@@ -229,6 +230,7 @@ fn into_parts<A: Allocator>(worker: Worker<A>) -> (Seat<(), View>, Finished<A>)
         steps,
         seat,
         tally,
+        patience: _patience,
     } = worker;
     (
         seat,

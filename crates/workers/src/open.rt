@@ -10,6 +10,7 @@ ghost use Rattle.workers.specs.Workers.{AreWorkersFrom};
 ghost use Rattle.workers.specs.Opening.{IsHallFaultOf, hall_number};
 
 use crate::hall::Hall;
+use crate::right_of_way::{Patience, RightOfWay};
 use crate::tally::Tally;
 use crate::worker::Worker;
 use atomic_table::Seat;
@@ -63,6 +64,7 @@ fn worker<A: Allocator + Copy>(
         steps: 0,
         seat,
         tally: Tally::new(),
+        patience: Patience::new(),
     })
 }
 
@@ -125,7 +127,15 @@ fn open_hall<A: Allocator + Copy>(
     let setup = Setup::new(copy, threads);
     let (table, seat) = shared_words::open(alloc, &setup)?;
     let workers = workers(&table.shared, alloc, &setup, seat)?;
-    Ok((Hall { table, setup }, workers))
+    let right_of_way = RightOfWay::new();
+    Ok((
+        Hall {
+            table,
+            setup,
+            right_of_way,
+        },
+        workers,
+    ))
 }
 
 impl<A: Allocator + Copy> Hall<A> {

@@ -18,6 +18,7 @@ ghost use Rattle.syntax.specs.declared.thread_end.Status.TheVariants.{Running};
 
 use crate::hall::Hall;
 use crate::loads::SeatLoads;
+use crate::right_of_way::{Patience, RightOfWay, pause};
 use crate::tally::Tally;
 use atomic_table::Seat;
 use bytecode::Code;
@@ -26,7 +27,6 @@ use machine::Thread;
 use norec_core::{Access, Stop};
 use shared_words::{View, Words, load_lock, load_word, make};
 use std::alloc::{Allocator, Global};
-use std::hint::spin_loop;
 use syntax::thread_end::{Status, Trap};
 
 /// A thread of a hall. Contracts say of it that it is a worker of that hall; it may move to any thread of the program.
@@ -37,6 +37,7 @@ pub struct Worker<A: Allocator = Global> {
     pub(crate) steps: u64,
     pub(crate) seat: Seat<(), View>,
     pub(crate) tally: Tally,
+    pub(crate) patience: Patience,
 }
 
 /// How a run of one worker ended.
@@ -50,22 +51,25 @@ pub enum RunEnd {
     Budget,
 }
 
-/// Tells the processor that this thread waits, where the lock was found taken.
+/// Waits for a moment if the lock was found taken, by the number of such looks.
 #[inline(always)]
-fn pause(lock: u64) {
+fn pause_if_taken(lock: u64, look: u64) {
     if lock % 2 == 1 {
-        spin_loop();
+        pause(look);
     }
 }
 
-/// How often a worker whose attempt was dropped tells the processor that it waits, before it begins anew.
-const BACKOFF: u32 = 512;
+/// For how many pauses a worker waits after an abort, before it retries.
+const BACKOFF: u64 = 512;
 
-/// Leaves the lock and the words to the other threads for a while.
+/// Leaves the lock and the words to the other threads for a while, unless they wait for this worker.
 #[inline(never)]
-fn back_off() {
-    'turns: for _ in 0..BACKOFF {
-        spin_loop();
+fn back_off(patience: &Patience) {
+    if patience.has_claimed() {
+        return;
+    }
+    'turns: for turn in 0..BACKOFF {
+        pause(turn);
     }
 }
 
@@ -211,7 +215,14 @@ impl<A: Allocator + Copy> Worker<A> {
 
     /// The steps of a begin, one after another, at most so many, until the lock is found even: how many were made.
     #[inline(always)]
-    fn begin(&mut self, words: &Words<A>, code: &Code<A>, to: u32, most: u64) -> u64
+    fn begin(
+        &mut self,
+        words: &Words<A>,
+        code: &Code<A>,
+        right_of_way: &RightOfWay,
+        to: u32,
+        most: u64,
+    ) -> u64
         requires table { words.now.table_id.words ≡ cells_of code.now + 1 }
         requires code { words.now.key.code ≡ code.now }
         requires worker { CanStep words.now.table_id words.now.key most self.old }
@@ -220,6 +231,7 @@ impl<A: Allocator + Copy> Worker<A> {
         ensures few { result ≤ most }
         ensures none { result ≡ 0 → StandsAt code.now self.new.thread (Doing.Begin to) }
     {
+        self.patience.begin(right_of_way, self.number);
         'loads: for loaded in 0..most {
             let Some(lock) = self.load_begin(words, code, to) else {
                 return loaded;
@@ -228,14 +240,14 @@ impl<A: Allocator + Copy> Worker<A> {
             if lock % 2 == 0 {
                 return loaded + 1;
             }
-            spin_loop();
+            pause(self.tally.retried);
         }
         most
     }
 
     /// The step of a commit that swaps the lock, where that is its next one: whether it was made.
     #[inline(always)]
-    fn swap(&mut self, words: &Words<A>, code: &Code<A>) -> bool
+    fn swap(&mut self, words: &Words<A>, code: &Code<A>, right_of_way: &RightOfWay) -> bool
         requires table { words.now.table_id.words ≡ cells_of code.now + 1 }
         requires code { words.now.key.code ≡ code.now }
         requires worker { CanStep words.now.table_id words.now.key 1 self.old }
@@ -247,6 +259,7 @@ impl<A: Allocator + Copy> Worker<A> {
         let Some(from) = self.thread.swaps_from(code) else {
             return false;
         };
+        right_of_way.give_way(self.number);
         let answer = make(words, &mut self.seat, Access::Swap(from));
         self.thread.take_swap(code, from, answer);
         true
@@ -294,7 +307,13 @@ impl<A: Allocator + Copy> Worker<A> {
     /// The swap of a commit and what follows it, at most so many steps, where it goes on with the swap or stores: how
     /// many were made.
     #[inline(always)]
-    fn commit(&mut self, words: &Words<A>, code: &Code<A>, most: u64) -> u64
+    fn commit(
+        &mut self,
+        words: &Words<A>,
+        code: &Code<A>,
+        right_of_way: &RightOfWay,
+        most: u64,
+    ) -> u64
         requires table { words.now.table_id.words ≡ cells_of code.now + 1 }
         requires code { words.now.key.code ≡ code.now }
         requires worker { CanStep words.now.table_id words.now.key most self.old }
@@ -304,7 +323,7 @@ impl<A: Allocator + Copy> Worker<A> {
         ensures few { result ≤ most }
         ensures none { result ≡ 0 → StandsAt code.now self.new.thread Doing.Commit }
     {
-        if !self.swap(words, code) {
+        if !self.swap(words, code, right_of_way) {
             return self.store_all(words, code, most);
         }
         let stored = self.store_all(words, code, most - 1);
@@ -313,7 +332,14 @@ impl<A: Allocator + Copy> Worker<A> {
 
     /// Steps of what is to be done, at most so many, where a function of its own makes them: how many were made.
     #[inline(always)]
-    fn complete(&mut self, words: &Words<A>, code: &Code<A>, doing: Doing, most: u64) -> u64
+    fn complete(
+        &mut self,
+        words: &Words<A>,
+        code: &Code<A>,
+        right_of_way: &RightOfWay,
+        doing: Doing,
+        most: u64,
+    ) -> u64
         requires table { words.now.table_id.words ≡ cells_of code.now + 1 }
         requires code { words.now.key.code ≡ code.now }
         requires worker { CanStep words.now.table_id words.now.key most self.old }
@@ -324,8 +350,8 @@ impl<A: Allocator + Copy> Worker<A> {
         ensures none { result ≡ 0 → StandsAt code.now self.new.thread doing }
     {
         match doing {
-            Doing::Begin(to) => self.begin(words, code, to, most),
-            Doing::Commit => self.commit(words, code, most),
+            Doing::Begin(to) => self.begin(words, code, right_of_way, to, most),
+            Doing::Commit => self.commit(words, code, right_of_way, most),
             _ => 0,
         }
     }
@@ -344,7 +370,7 @@ impl<A: Allocator + Copy> Worker<A> {
         let lock = load_lock(words, &mut self.seat);
         self.thread.take_wait(code, lock);
         self.tally.count_wait(lock);
-        pause(lock);
+        pause_if_taken(lock, self.tally.retried);
     }
 
     /// The step of validation that compares this entry: whether its word was loaded again.
@@ -432,7 +458,13 @@ impl<A: Allocator + Copy> Worker<A> {
     /// Steps of validation, one after another, at most so many, where what is to be done is under it: how many were
     /// made.
     #[inline(never)]
-    fn validate(&mut self, words: &Words<A>, code: &Code<A>, most: u64) -> u64
+    fn validate(
+        &mut self,
+        words: &Words<A>,
+        code: &Code<A>,
+        right_of_way: &RightOfWay,
+        most: u64,
+    ) -> u64
         requires table { words.now.table_id.words ≡ cells_of code.now + 1 }
         requires code { words.now.key.code ≡ code.now }
         requires worker { CanStep words.now.table_id words.now.key most self.old }
@@ -454,13 +486,24 @@ impl<A: Allocator + Copy> Worker<A> {
             let (compared, goes_on) = self.compare(words, code, time, index, left);
             left -= compared;
             self.tally.count_compared(compared);
+            self.patience.count(goes_on, right_of_way, self.number);
             if !goes_on {
                 self.tally.count_drop();
-                back_off();
+                back_off(&self.patience);
                 return most - left;
             }
         }
         most
+    }
+
+    /// Gives way before a step that takes the lock and is no commit's.
+    #[inline(always)]
+    fn give_way(&self, doing: Doing, right_of_way: &RightOfWay) {
+        if let Doing::Irrevocable = doing {
+            if !self.thread.has_lock() {
+                right_of_way.give_way(self.number);
+            }
+        }
     }
 
     /// Steps of the thread in which this is to be done, at most so many, and one at least: how many were made.
@@ -469,6 +512,7 @@ impl<A: Allocator + Copy> Worker<A> {
         &mut self,
         words: &Words<A>,
         code: &Code<A>,
+        right_of_way: &RightOfWay,
         doing: Doing,
         most: u64,
     ) -> Result<u64, Stop>
@@ -482,14 +526,15 @@ impl<A: Allocator + Copy> Worker<A> {
         ensures err { OnErr result (StepsBy words.now.table_id words.now.key 0 self.old self.new) }
         ensures stop { IfErr result (λ e. StopsAt code.now self.new.thread.thread e) }
     {
-        let made = self.complete(words, code, doing, most);
+        let made = self.complete(words, code, right_of_way, doing, most);
         if made > 0 {
             return Ok(made);
         }
-        let passed = self.validate(words, code, most);
+        let passed = self.validate(words, code, right_of_way, most);
         if passed > 0 {
             return Ok(passed);
         }
+        self.give_way(doing, right_of_way);
         match self.step_on(words, code) {
             Ok(()) => Ok(1),
             Err(stop) => Err(stop),
@@ -534,7 +579,9 @@ impl<A: Allocator + Copy> Worker<A> {
             let Some(doing) = doing else {
                 return (budget, Ok(self.report_of(budget)));
             };
-            match self.operate(&hall.table.shared, hall.setup.code(), doing, left) {
+            let words = &hall.table.shared;
+            let code = hall.setup.code();
+            match self.operate(words, code, &hall.right_of_way, doing, left) {
                 Ok(made) => left -= made,
                 Err(stop) => return (budget - left, Err(stop)),
             }
@@ -543,7 +590,7 @@ impl<A: Allocator + Copy> Worker<A> {
     }
 
     /// Makes `budget` steps of the machine, or fewer where the thread is over or a step stops. An access to the lock or
-    /// to a cell is one atomic step on the hall's table. It waits for no other thread.
+    /// to a cell is one atomic step on the hall's table. Between steps it may wait for another worker, for a bounded time.
     ///
     /// A stop, `OutOfMemory` where the memory that a step wants was refused and `SequenceUsedUp` where the lock has no
     /// value left, comes only where the thread runs still and has made fewer steps than the budget. It leaves all
@@ -569,6 +616,7 @@ impl<A: Allocator + Copy> Worker<A> {
     {
         let (made, ended) = self.run_on(hall, budget);
         self.steps += made;
+        hall.right_of_way.give_up(self.number);
         ended
     }
 
