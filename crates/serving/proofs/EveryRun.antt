@@ -1,4 +1,4 @@
--- What is confirmed of all orders is so of every run.
+-- Every run has what is confirmed of all orders.
 use Rattle.std.proofs.Common.{◌≡◌, ◌∙◌, ℕ, ◌%◌, false, List, drop, get_or, map, sym, ap, subst, arith}
 use Rattle.lex.specs.Pieces.{IsLexed}
 use Rattle.lex.specs.Tokens.{Tok}

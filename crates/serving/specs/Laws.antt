@@ -86,7 +86,7 @@ abbrev pub HoldsInReport : Program → (threads : ℕ) → (name : List ℕ) →
 HoldsInReport p threads x shown = (ticks : ℕ) × (order : List ℕ) × IsOrderOf p threads ticks order shown
     × HoldsOf p x (memory_in p threads ticks order)
 
--- what holds of a program where all threads are over holds in each report in which each thread has ended or trapped
+-- what holds of a program once all threads have terminated holds in each report in which each thread has ended or trapped
 abbrev pub PropertiesHoldInReports : Type 0
 PropertiesHoldInReports =
     (threads : ℕ) (text x : List ℕ) (source : ParsedSource) (shown : Printed) → IsSourceOf text source →

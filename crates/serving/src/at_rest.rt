@@ -29,7 +29,7 @@ fn end_at_rest(status: Status) -> ThreadEnd
     }
 }
 
-/// What is told of a thread that rests.
+/// The output of a thread that rests, and how it stands.
 pub(crate) fn thread_told<A: Allocator + Copy>(
     alloc: A,
     thread: &AtomicThread<A>,
@@ -45,7 +45,7 @@ pub(crate) fn thread_told<A: Allocator + Copy>(
     })
 }
 
-/// What is told of the threads of a state.
+/// The output of the threads of a state, and how they stand.
 pub(crate) fn state_told<A: Allocator + Copy>(
     alloc: A,
     walk: &Walk<A>,

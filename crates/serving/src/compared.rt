@@ -133,8 +133,8 @@ pub(crate) fn is_whole<A: Allocator>(found: &OutcomesFound<A>) -> bool
     found.end == WalkEnd::Whole
 }
 
-/// Says at what the walk over the states of the program in a file was stopped, behind the words `so_far`, and where
-/// lines are wanted which option lets it go on.
+/// Says at what the walk over the states of the program in a file was stopped, after the words `so_far`, and if
+/// lines are wanted which option lets it continue.
 pub(crate) fn tell_stopped<E: Write>(
     name: &str,
     so_far: &str,

@@ -90,7 +90,7 @@ pub fn properties_hold_in_every_world()
 }
 
 /// Every report keeps what `--final` confirms. A function that holds of the memory that each order leaves in which all
-/// threads are over holds of the last memory of each report in which each thread has ended or trapped. `txc run` prints
+/// threads have terminated holds of the last memory of each report in which each thread has ended or trapped. `txc run` prints
 /// such reports with exit status 0 or 3 (`reports_are_orders`).
 pub fn properties_hold_in_reports()
     ensures { PropertiesHoldInReports }

@@ -69,7 +69,7 @@ fn property_rows() -> &'static [Row] {
                 b"",
             ),
         ),
-        // the shortest order, though thread 0 alone could go on for longer; on a terminal the option is named
+        // the shortest order, though thread 0 alone reaches the same value later; a terminal names the option
         (
             "txc outcomes a.c --threads 2 --always below --verbose",
             b"int x; int below(void) { return x != 9; } void worker(int self) { int i; if (self) { __transaction_atomic { x = 9; } } else { for (i = 0; i < 9; i++) { __transaction_atomic { x = x + 1; } } } }",
