@@ -401,7 +401,7 @@ fn says_what_words_are_wrong(rt: HostRuntime) {
     let told = b"txc: usage: bad --order\n";
     assert!(rt; is_refused(rt.alloc(), wrong, (2, b"", told)));
     let help = "txc source --help";
-    assert!(rt; is_refused(rt.alloc(), help, (0, b"Runs the source itself", b"")));
+    assert!(rt; is_refused(rt.alloc(), help, (0, b"Run the source one", b"")));
     let refused = (4, b"".as_slice(), b"txc: out of memory\n".as_slice());
     assert!(rt; is_told_so(rt.alloc(), &UsageFault::OutOfMemory, refused));
 }
