@@ -1,0 +1,238 @@
+//! The text of a trace.
+
+ghost use Rattle.std.specs.Prelude.{◌≡◌, ◌++◌, ◌+◌, IfOk, OnOk, decimal, flat_map, map};
+ghost use Rattle.traces.specs.Columns.{mark_text, value_text};
+ghost use Rattle.traces.specs.Trace.{column_text, first_line, head_line, marks_text, table_text, told_words};
+ghost use Rattle.traces.specs.Trace.{turn_columns, turn_line, turn_lines, turn_words};
+ghost use Rattle.traces.specs.Trace as spec;
+ghost use Rattle.traces.specs.Views.{column_of, named_of, thread_at_of, turn_of};
+
+use crate::columns::{Column, columns_of, mark_bytes, value_bytes};
+use crate::ends::{push_ends, push_status};
+use crate::push::{push_bytes, push_column, push_first_columns, push_number, push_printed};
+use crate::turn::{Named, ThreadAt, TurnShown};
+use std::alloc::{AllocError, Allocator};
+
+/// Adds the name of a column.
+fn push_name<A: Allocator>(text: &mut Vec<u8, A>, column: &Column<A>) -> Result<(), AllocError>
+    ensures { OnOk result (text.new.items ≡ text.old.items ++ column_text column.now.width column.now.name) }
+{
+    push_column(text, column.width, column.name.as_slice())
+}
+
+/// Adds the names of columns.
+fn push_names<A: Allocator>(text: &mut Vec<u8, A>, columns: &[Column<A>]) -> Result<(), AllocError>
+    ensures { OnOk result (text.new.items ≡ text.old.items
+        ++ flat_map (λ c. column_text c.width c.name) (map column_of columns.now)) }
+{
+    'columns: for column in columns {
+        push_name(text, column)?;
+    }
+    Ok(())
+}
+
+/// Adds the line with the names of columns.
+fn push_head<A: Allocator>(text: &mut Vec<u8, A>, columns: &[Column<A>]) -> Result<(), AllocError>
+    ensures { OnOk result (text.new.items ≡ text.old.items ++ head_line (map column_of columns.now)) }
+{
+    push_first_columns(text, b"turn", b"thread", b"at")?;
+    push_names(text, columns)?;
+    push_bytes(text, b"\n")
+}
+
+/// Adds the value of a column's cell before the first turn.
+fn push_first_value<A: Allocator + Copy>(
+    alloc: A,
+    text: &mut Vec<u8, A>,
+    column: &Column<A>,
+) -> Result<(), AllocError>
+    ensures { OnOk result (text.new.items ≡ text.old.items
+        ++ column_text column.now.width (value_text column.now.ty column.now.first)) }
+{
+    let value = value_bytes(alloc, column.ty, column.first)?;
+    push_column(text, column.width, value.as_slice())
+}
+
+/// Adds the values of cells before the first turn.
+fn push_first_values<A: Allocator + Copy>(
+    alloc: A,
+    text: &mut Vec<u8, A>,
+    columns: &[Column<A>],
+) -> Result<(), AllocError>
+    ensures { OnOk result (text.new.items ≡ text.old.items
+        ++ flat_map (λ c. column_text c.width (value_text c.ty c.first)) (map column_of columns.now)) }
+{
+    'columns: for column in columns {
+        push_first_value(alloc, text, column)?;
+    }
+    Ok(())
+}
+
+/// Adds the line with the values of cells before the first turn.
+fn push_first<A: Allocator + Copy>(
+    alloc: A,
+    text: &mut Vec<u8, A>,
+    columns: &[Column<A>],
+) -> Result<(), AllocError>
+    ensures { OnOk result (text.new.items ≡ text.old.items ++ first_line (map column_of columns.now)) }
+{
+    push_first_columns(text, b"", b"", b"")?;
+    push_first_values(alloc, text, columns)?;
+    push_bytes(text, b"\n")
+}
+
+/// Adds the mark of a column's cell in a turn.
+fn push_mark<A: Allocator + Copy>(
+    alloc: A,
+    text: &mut Vec<u8, A>,
+    column: &Column<A>,
+    turn: &TurnShown<A>,
+) -> Result<(), AllocError>
+    ensures { OnOk result (text.new.items ≡ text.old.items
+        ++ column_text column.now.width (mark_text column.now.cell column.now.ty turn.now.marks)) }
+{
+    let mark = mark_bytes(alloc, column.cell, column.ty, turn.marks.as_slice())?;
+    push_column(text, column.width, mark.as_slice())
+}
+
+/// Adds the marks of a turn in these columns.
+fn push_marks<A: Allocator + Copy>(
+    alloc: A,
+    text: &mut Vec<u8, A>,
+    columns: &[Column<A>],
+    turn: &TurnShown<A>,
+) -> Result<(), AllocError>
+    ensures { OnOk result (text.new.items ≡ text.old.items
+        ++ marks_text (map column_of columns.now) (turn_of turn.now)) }
+{
+    'columns: for column in columns {
+        push_mark(alloc, text, column, turn)?;
+    }
+    Ok(())
+}
+
+/// Adds what a turn does apart from memory.
+fn push_told<A: Allocator>(text: &mut Vec<u8, A>, turn: &TurnShown<A>) -> Result<(), AllocError>
+    ensures { OnOk result (text.new.items ≡ text.old.items ++ told_words (turn_of turn.now)) }
+{
+    if turn.is_idle {
+        return push_bytes(text, b"  none: terminated");
+    }
+    push_printed(text, turn.printed.as_slice())?;
+    push_status(text, turn.status)
+}
+
+/// Adds the number of a turn, its thread, and where the transaction is.
+fn push_numbers<A: Allocator + Copy>(
+    alloc: A,
+    text: &mut Vec<u8, A>,
+    number: u64,
+    turn: &TurnShown<A>,
+) -> Result<(), AllocError>
+    ensures { OnOk result (text.new.items ≡ text.old.items
+        ++ spec.first_columns (decimal number) (decimal turn.now.thread) turn.now.at) }
+{
+    let mut count = Vec::new(alloc);
+    push_number(&mut count, number)?;
+    let mut thread = Vec::new(alloc);
+    push_number(&mut thread, u64::from(turn.thread))?;
+    push_first_columns(
+        text,
+        count.as_slice(),
+        thread.as_slice(),
+        turn.at.as_slice(),
+    )
+}
+
+/// Adds the columns of a turn's line.
+fn push_turn_columns<A: Allocator + Copy>(
+    alloc: A,
+    text: &mut Vec<u8, A>,
+    columns: &[Column<A>],
+    number: u64,
+    turn: &TurnShown<A>,
+) -> Result<(), AllocError>
+    ensures { OnOk result (text.new.items ≡ text.old.items
+        ++ turn_columns (map column_of columns.now) number (turn_of turn.now)) }
+{
+    push_numbers(alloc, text, number, turn)?;
+    push_marks(alloc, text, columns, turn)
+}
+
+/// Adds the words of a turn's line.
+fn push_turn_words<A: Allocator>(
+    text: &mut Vec<u8, A>,
+    turn: &TurnShown<A>,
+) -> Result<(), AllocError>
+    ensures { OnOk result (text.new.items ≡ text.old.items ++ turn_words (turn_of turn.now)) }
+{
+    push_bytes(text, b"   ")?;
+    push_bytes(text, turn.words.as_slice())?;
+    push_told(text, turn)?;
+    push_bytes(text, b"\n")
+}
+
+/// Adds the line of a turn.
+fn push_turn<A: Allocator + Copy>(
+    alloc: A,
+    text: &mut Vec<u8, A>,
+    columns: &[Column<A>],
+    number: u64,
+    turn: &TurnShown<A>,
+) -> Result<(), AllocError>
+    ensures { OnOk result (text.new.items ≡ text.old.items
+        ++ turn_line (map column_of columns.now) number (turn_of turn.now)) }
+{
+    push_turn_columns(alloc, text, columns, number, turn)?;
+    push_turn_words(text, turn)
+}
+
+/// Adds the lines of turns.
+fn push_turns<A: Allocator + Copy>(
+    alloc: A,
+    text: &mut Vec<u8, A>,
+    columns: &[Column<A>],
+    turns: &[TurnShown<A>],
+) -> Result<(), AllocError>
+    ensures { OnOk result (text.new.items ≡ text.old.items
+        ++ turn_lines (map column_of columns.now) 1 (map turn_of turns.now)) }
+{
+    'turns: for number in 0..turns.len() {
+        push_turn(alloc, text, columns, number as u64 + 1, &turns[number])?;
+    }
+    Ok(())
+}
+
+/// Adds the table of a trace.
+fn push_table<A: Allocator + Copy>(
+    alloc: A,
+    text: &mut Vec<u8, A>,
+    columns: &[Column<A>],
+    turns: &[TurnShown<A>],
+) -> Result<(), AllocError>
+    ensures { OnOk result (text.new.items ≡ text.old.items
+        ++ table_text (map column_of columns.now) (map turn_of turns.now)) }
+{
+    push_head(text, columns)?;
+    push_first(alloc, text, columns)?;
+    push_turns(alloc, text, columns, turns)
+}
+
+/// The text of a trace: a line for each turn, with a column for each cell that one of them reads or writes, under a line
+/// with the words before the first one; and then a line for each thread.
+pub fn trace_text<A: Allocator + Copy>(
+    alloc: A,
+    names: &[Named<A>],
+    first: &[u64],
+    turns: &[TurnShown<A>],
+    ends: &[ThreadAt<A>],
+) -> Result<Vec<u8, A>, AllocError>
+    ensures { IfOk result (λ r. r.items ≡ spec.trace_text (map named_of names.now) first.now (map turn_of turns.now)
+        (map thread_at_of ends.now)) }
+{
+    let columns = columns_of(alloc, names, first, turns)?;
+    let mut text = Vec::new(alloc);
+    push_table(alloc, &mut text, columns.as_slice(), turns)?;
+    push_ends(&mut text, ends)?;
+    Ok(text)
+}
