@@ -14,4 +14,6 @@ mod led;
 #[cfg(test)]
 mod programs;
 #[cfg(test)]
+mod shortest;
+#[cfg(test)]
 mod walked;
