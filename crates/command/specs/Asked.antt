@@ -1,4 +1,4 @@
--- What words ask.
+-- The requests that words make.
 use Rattle.std.specs.Prelude.{◌≡◌, ◌≢◌, ◌⊎◌, ◌↔◌, ◌≤◌, ◌<◌, ◌==◌, ℕ, Bool, true, false, IsTrue, IsSomeAnd, List, []}
 use Rattle.std.specs.Prelude.{◌∷◌, ◌||◌, Option, Some, None, codes, filter, is_some, length, not, option_map}
 use Rattle.std.specs.Prelude.{string_bytes}
@@ -29,11 +29,11 @@ use Rattle.command.specs.Line.{program_app}
 abbrev pub IsDecimal : Text → ℕ → Type 0
 IsDecimal text n = IsNumeral 10 text × (digits_value 10 text ≡ n) × (n < 4294967296)
 
--- a text says a number below 2 ^ 32 in decimal digits, where a plus may stand first
+-- a text spells a number below 2 ^ 32 in decimal digits, with an optional plus first
 abbrev pub SaysNumber : Text → ℕ → Type 0
 SaysNumber text n = IsDecimal (without_leading_plus text) n
 
--- a text that says no number
+-- a text that spells no number
 abbrev pub IsNoNumber : Text → Type 0
 IsNoNumber text = (n : ℕ) → SaysNumber text n → ⊥
 
@@ -47,7 +47,7 @@ IsNumberRead _ _ = ⊥
 abbrev pub IsGiven : List Row → Text → ℕ → Type 0
 IsGiven given id n = IsSomeAnd (one_of id given) (λ text. SaysNumber text n)
 
--- a number, or this one where none is said
+-- a number, or the default
 abbrev pub IsSaidOr : (default : ℕ) → Option Text → ℕ → Type 0
 IsSaidOr default None n = n ≡ default
 IsSaidOr default (Some text) n = SaysNumber text n
@@ -58,7 +58,7 @@ pub record IsNumberInRange (given : List Row) (id : Text) (default least most n 
   pub not_below : least ≤ n
   pub not_above : n ≤ most
 
--- pieces that are threads' numbers
+-- pieces that are thread numbers
 abbrev pub AreThreads : List Text → List ℕ → Type 0
 AreThreads [] [] = Unit {0}
 AreThreads (piece ∷ pieces) (n ∷ ns) = IsDecimal piece n × AreThreads pieces ns
@@ -68,19 +68,19 @@ AreThreads _ _ = ⊥
 abbrev pub IsOrder : Text → List ℕ → Type 0
 IsOrder text order = ((text ≡ []) × (order ≡ [])) ⊎ AreThreads (slice_split (λ b. b == 44) text) order
 
--- what parts thread numbers in a file: a comma, a blank, a tab or the end of a line, which may have a carriage return
+-- separators of thread numbers in a file: a comma, a blank, a tab or the end of a line, perhaps with a carriage return
 abbrev pub is_between : ℕ → Bool
 is_between b = (b == 44) || (b == 32) || (b == 9) || (b == 10) || (b == 13)
 
--- what stands between
+-- the words between them
 abbrev pub words_listed : Text → List Text
 words_listed text = filter (λ word. not (length word == 0)) (slice_split is_between text)
 
--- thread numbers, parted by any number of these
+-- thread numbers, with any number of separators between them
 abbrev pub IsListedOrder : Text → List ℕ → Type 0
 IsListedOrder text order = AreThreads (words_listed text) order
 
--- so many steps are asked for
+-- so many steps are requested
 abbrev pub AreCounted : List Row → ℕ → Type 0
 AreCounted given count = IsNumberInRange given (codes "steps") 100000 0 1048576 count
 
@@ -88,7 +88,7 @@ AreCounted given count = IsNumberInRange given (codes "steps") 100000 0 1048576 
 abbrev pub IsNotBoth : List Row → Text → Type 0
 IsNotBoth given file = (first_of (codes "FILE") given ≡ Some (codes "-")) × (file ≡ codes "-") → ⊥
 
--- a schedule, no seed and no order; a number of steps has no effect beside it, and is in its range all the same
+-- a schedule, no seed and no order; a number of steps has no effect then, and still has to be in its range
 pub record AreScheduled (given : List Row) (file : Text) : Type 0 where
   pub named : first_of (codes "schedule") given ≡ Some file
   pub no_seed : one_of (codes "seed") given ≡ None
@@ -103,8 +103,8 @@ pub record IsOrderGiven (given : List Row) (order : List ℕ) : Type 0 where
   pub said : first_of (codes "order") given ≡ Some text
   pub listed : IsOrder text order
 
--- an order of threads, and neither a schedule nor a seed; a number of steps has no effect beside it, and is in its range
--- all the same
+-- an order of threads, and neither a schedule nor a seed; a number of steps has no effect then, and still has to be in
+-- its range
 pub record AreOrdered (given : List Row) (order : List ℕ) : Type 0 where
   pub order_is : IsOrderGiven given order
   pub no_schedule : first_of (codes "schedule") given ≡ None
@@ -112,7 +112,7 @@ pub record AreOrdered (given : List Row) (order : List ℕ) : Type 0 where
   pub count : ℕ
   pub counted : AreCounted given count
 
--- a schedule, a seed or an order, and one of them alone
+-- exactly one of a schedule, a seed and an order
 abbrev pub AreSteps : List Row → Steps → Type 0
 AreSteps given (Schedule file) = AreScheduled given (string_bytes file)
 AreSteps given (Seed seed count) = (first_of (codes "schedule") given ≡ None) × IsGiven given (codes "seed") seed
@@ -122,6 +122,10 @@ AreSteps given (Order order) = AreOrdered given order.items
 -- 1 to 64 threads
 abbrev pub AreThreadsGiven : List Row → ℕ → Type 0
 AreThreadsGiven given n = IsNumberInRange given (codes "threads") 1 1 64 n
+
+-- 1 to 64 threads whose orders are explored; one thread has a single order, so the default is two
+abbrev pub AreThreadsExplored : List Row → ℕ → Type 0
+AreThreadsExplored given n = IsNumberInRange given (codes "threads") 2 1 64 n
 
 -- a flag
 abbrev pub IsFlagged : List Row → Text → Type 0
@@ -137,19 +141,19 @@ pub record AreFlagged (given : List Row) (timeline picture print_schedule : Bool
 abbrev pub AreUncompared : List Row → Type 0
 AreUncompared given = (first_of (codes "refines") given ≡ None) × (first_of (codes "expect") given ≡ None)
 
--- the first access that is drawn; where none is said, all is drawn from the beginning
+-- the first access that is drawn; by default, all is drawn from the beginning
 abbrev pub IsFirstDrawn : List Row → ℕ → Type 0
 IsFirstDrawn given n = IsNumberInRange given (codes "from") 0 0 1048576 n
 
--- no such access is said
+-- no such access is given
 abbrev pub NoFirstDrawn : List Row → Type 0
 NoFirstDrawn given = first_of (codes "from") given ≡ None
 
--- functions are asked whether they hold
+-- some functions are properties to check
 abbrev pub are_asked : List Row → Bool
 are_asked given = is_some (first_of (codes "always") given) || is_some (first_of (codes "final") given)
 
--- what is done with a program whose outcomes are compared with nothing, and of which no function is asked
+-- the task with a program whose outcomes are compared with nothing, and of which no property is checked
 abbrev pub IsTask : Text → List Row → Task → Type 0
 IsTask name given (Check told) = (name ≡ codes "check") × (IsTrue told.warns ↔ IsFlagged given (codes "warn"))
     × (IsTrue told.all ↔ IsFlagged given (codes "all"))
@@ -172,14 +176,14 @@ IsTask name given (PrintOrder threads order) = (name ≡ codes "replay") × AreT
 IsTask name given (Source threads order ticks) = (name ≡ codes "source") × AreThreadsGiven given threads
     × IsOrderGiven given order.items
     × IsNumberInRange given (codes "ticks") 100000 0 1000000 ticks
-IsTask name given (Outcomes threads steps limit memory) = (name ≡ codes "outcomes") × AreThreadsGiven given threads
+IsTask name given (Outcomes threads steps limit memory) = (name ≡ codes "outcomes") × AreThreadsExplored given threads
     × IsNumberInRange given (codes "steps") 1000000 0 4294967295 steps
     × IsNumberInRange given (codes "limit") 1000000 0 4294967295 limit
     × IsNumberInRange given (codes "memory") 1024 0 4294967295 memory × AreUncompared given × (are_asked given ≡ false)
 
--- what is asked: functions that are to hold in every state, and those that are to hold in every outcome
+-- the properties to check: functions that must hold in every state, and those that must hold in every outcome
 pub record AreQuestions (given : List Row) (questions : Questions) : Type 0 where
-  pub threads : AreThreadsGiven given questions.threads
+  pub threads : AreThreadsExplored given questions.threads
   pub steps : IsNumberInRange given (codes "steps") 1000000 0 4294967295 questions.steps
   pub limit : IsNumberInRange given (codes "limit") 1000000 0 4294967295 questions.limit
   pub memory : IsNumberInRange given (codes "memory") 1024 0 4294967295 questions.memory
@@ -195,7 +199,7 @@ pub record AreClaimFiles (given : List Row) (order report : Text) : Type 0 where
   pub report_not_both : IsNotBoth given report
   pub not_both : (order ≡ codes "-") × (report ≡ codes "-") → ⊥
 
--- what is claimed of a report
+-- the claim about a report
 pub record IsClaim (given : List Row) (claim : Claim) : Type 0 where
   pub threads : AreThreadsGiven given claim.threads
   pub files : AreClaimFiles given (string_bytes claim.order) (string_bytes claim.report)
@@ -207,26 +211,26 @@ pub record IsGivenAlone (given : List Row) (id other file : Text) : Type 0 where
   pub alone : first_of other given ≡ None
   pub not_both : IsNotBoth given file
 
--- with what outcomes are compared
+-- the other side of a comparison of outcomes
 abbrev pub IsAgainst : List Row → Against → Type 0
 IsAgainst given (Refined file) = IsGivenAlone given (codes "refines") (codes "expect") (string_bytes file)
 IsAgainst given (Expected file) = IsGivenAlone given (codes "expect") (codes "refines") (string_bytes file)
 
 -- how outcomes are compared
 pub record IsComparison (given : List Row) (comparison : Comparison) : Type 0 where
-  pub threads : AreThreadsGiven given comparison.threads
+  pub threads : AreThreadsExplored given comparison.threads
   pub steps : IsNumberInRange given (codes "steps") 1000000 0 4294967295 comparison.steps
   pub limit : IsNumberInRange given (codes "limit") 1000000 0 4294967295 comparison.limit
   pub memory : IsNumberInRange given (codes "memory") 1024 0 4294967295 comparison.memory
   pub against : IsAgainst given comparison.against
 
--- how faults are to be told, by what is given for `--format`
+-- how faults are reported, by the value of `--format`
 abbrev pub IsFormat : Option Text → Format → Type 0
 IsFormat text Plain = text ≡ None
 IsFormat text Short = text ≡ Some (codes "short")
 IsFormat text Json = text ≡ Some (codes "json")
 
--- a command and what is given for its arguments make this request
+-- a command and the values of its arguments make this request
 abbrev pub IsRequest : Text → List Row → Request → Type 0
 IsRequest name given (Program file verbose format task) = (first_of (codes "FILE") given ≡ Some (string_bytes file))
     × (IsTrue verbose ↔ IsFlagged given (codes "verbose")) × IsFormat (first_of (codes "format") given) format
@@ -257,23 +261,23 @@ pub record Requests (words : List Text) (request : Request) : Type 0 where
   pub command : subcommand_of program_app words ≡ Some (name, given)
   pub made : IsRequest name given request
 
--- words that ask nothing
+-- words that request nothing
 abbrev pub AskNothing : List Text → Type 0
 AskNothing words = (request : Request) → Requests words request → ⊥
 
--- help is asked for, or the version
+-- the words request help, or the version
 abbrev pub AskHelp : List Text → Type 0
 AskHelp words = let kinds = fault_of program_app words in IsAmong DisplayHelp kinds ⊎ IsAmong DisplayVersion kinds
 
--- the command line has not got such words, and it is no help that they ask for
+-- the command line does not accept such words, and they do not request help
 pub record AreUnknown (words : List Text) : Type 0 where
   pub kind : ErrorKind
   pub among : IsAmong kind (fault_of program_app words)
   pub no_help : kind ≢ DisplayHelp
   pub no_version : kind ≢ DisplayVersion
 
--- What a fault says of words: help comes where it is asked for, and words are wrong where the command line has not got
--- them, or where it has and they make no request. Want of memory says nothing.
+-- The meaning of a fault for words: help is the answer to a request for it; words are wrong if the command line does
+-- not accept them, or if it does and they make no request. An allocation failure implies nothing.
 abbrev pub Refuses : List Text → UsageFault → Type 0
 Refuses words OutOfMemory = Unit {0}
 Refuses words (Help text) = AskHelp words

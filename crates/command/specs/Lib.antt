@@ -1,6 +1,6 @@
 -- the commands, and what each takes
 pub mod Line
--- what words ask
+-- the requests that words make
 pub mod Asked
--- what only private functions and proofs speak of
+-- definitions for private functions and proofs alone
 pub mod inner

@@ -15,7 +15,7 @@ flag_rule name = record (new_rule name) { long = Some name; action = Some SetTru
 abbrev pub text_rule : Text → Rule
 text_rule name = record (new_rule name) { long = Some name; action = Some Set; value_names = 1 }
 
--- one that has to be given
+-- a required option
 abbrev pub wanted_rule : Text → Rule
 wanted_rule name = record (text_rule name) { required = true }
 
@@ -27,7 +27,7 @@ order_rule = wanted_rule (codes "order")
 abbrev pub fault_rule : Rule
 fault_rule = record (new_rule (codes "NN")) { required = true; action = Some Set }
 
--- the number of a trap, where traps are explained
+-- the number of a trap, for explaining traps
 abbrev pub trap_rule : Rule
 trap_rule = record (new_rule (codes "N")) { action = Some Set }
 
@@ -88,7 +88,7 @@ certify_app =
 abbrev pub explain_app : App
 explain_app = with_rule (with_rule (new_app (codes "explain")) fault_rule) trap_rule
 
--- the program, which wants a command
+-- the program, which requires a command
 abbrev pub commandless_app : App
 commandless_app =
     let program = new_app (codes "txc") in

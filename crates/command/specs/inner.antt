@@ -1,4 +1,4 @@
--- what the program refuses by itself
+-- the program's own refusals
 pub mod Refusals
--- commands as they are made
+-- the construction of commands
 pub mod Made

@@ -10,7 +10,7 @@ ghost use Rattle.command.specs.inner.Refusals.{IsOwn};
 use crate::claim::file_given;
 use crate::given::{text_given, wrong};
 use crate::request::{Against, Comparison, UsageFault};
-use crate::task::{number, threads};
+use crate::task::{number, threads_explored};
 use clap::ArgMatches;
 use std::alloc::Global;
 
@@ -73,7 +73,7 @@ pub(crate) fn comparison(alloc: Global, given: &ArgMatches<'_>) -> Result<Compar
     ensures err { IfErr result (IsOwn ((c : Comparison) → IsComparison (rows_of (found_of given.now)) c → ⊥)) }
 {
     Ok(Comparison {
-        threads: threads(alloc, given)?,
+        threads: threads_explored(alloc, given)?,
         steps: number(alloc, given, "steps", 1000000, 0, u32::MAX)?,
         limit: number(alloc, given, "limit", 1000000, 0, u32::MAX)?,
         memory: number(alloc, given, "memory", 1024, 0, u32::MAX)?,

@@ -191,6 +191,19 @@ fn threads<'a>(alloc: Global) -> Arg<'a>
     )
 }
 
+/// The number of threads whose orders are explored.
+fn threads_explored<'a>(alloc: Global) -> Arg<'a>
+    ensures rule { rule_of result ≡ text_rule (codes "threads") }
+    ensures global { result.global ≡ false }
+{
+    text(
+        alloc,
+        "threads",
+        "T",
+        "Number of threads, 1 to 64 [default: 2]",
+    )
+}
+
 /// The command that runs all threads at once.
 fn run<'a>(alloc: Global) -> Result<Command<'a>, AllocError>
     ensures { IfOk result (IsMade run_app) }
@@ -329,7 +342,7 @@ fn outcome_states<'a>(alloc: Global) -> Result<Command<'a>, AllocError>
         "List every possible outcome of a program, each with an order of transactions that leads to it, and deadlocks",
         "Example:\n  txc outcomes counter.c --threads 2",
     );
-    let command = with(command, threads(alloc));
+    let command = with(command, threads_explored(alloc));
     let steps = text(
         alloc,
         "steps",

@@ -8,7 +8,7 @@ ghost use Rattle.command.specs.inner.Refusals.{IsOwn};
 
 use crate::given::{flag_given, text_given};
 use crate::request::{Questions, UsageFault};
-use crate::task::{number, threads};
+use crate::task::{number, threads_explored};
 use clap::ArgMatches;
 use std::alloc::{AllocError, Global};
 
@@ -56,7 +56,7 @@ pub(crate) fn questions(alloc: Global, given: &ArgMatches<'_>) -> Result<Questio
     ensures ok { IfOk result (AreQuestions (rows_of (found_of given.now))) }
     ensures err { IfErr result (IsOwn ((q : Questions) → AreQuestions (rows_of (found_of given.now)) q → ⊥)) }
 {
-    let threads = threads(alloc, given)?;
+    let threads = threads_explored(alloc, given)?;
     let steps = number(alloc, given, "steps", 1000000, 0, u32::MAX)?;
     let limit = number(alloc, given, "limit", 1000000, 0, u32::MAX)?;
     let memory = number(alloc, given, "memory", 1024, 0, u32::MAX)?;

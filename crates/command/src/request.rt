@@ -1,17 +1,17 @@
-//! What words ask, and why they may ask nothing.
+//! The requests that words make, and why they may make none.
 
 ghost use Rattle.std.specs.Prelude.{◌≡◌};
 
 use std::alloc::AllocError;
 use thiserror::Error;
 
-/// What is asked.
+/// A request.
 #[derive(Debug, Drop)]
 pub enum Request {
     /// Does something with the program in a file.
     Program {
         file: String,
-        /// Whether more is told of a fault than its line.
+        /// Whether more of a fault is reported than its line.
         verbose: bool,
         format: Format,
         task: Task,
@@ -19,7 +19,7 @@ pub enum Request {
     /// Certifies a report of the program in a file.
     Certify {
         file: String,
-        /// Whether more is told of a fault than its line.
+        /// Whether more of a fault is reported than its line.
         verbose: bool,
         format: Format,
         claim: Claim,
@@ -27,33 +27,32 @@ pub enum Request {
     /// Compares the outcomes of the program in a file with those of another program, or with a list of them.
     Compare {
         file: String,
-        /// Whether more is told of a fault than its line.
+        /// Whether more of a fault is reported than its line.
         verbose: bool,
         format: Format,
         comparison: Comparison,
     },
-    /// Asks whether functions of the program in a file hold whatever order its threads take.
+    /// Checks whether functions of the program in a file hold in every order of its threads.
     Ask {
         file: String,
-        /// Whether more is told of a fault than its line.
+        /// Whether more of a fault is reported than its line.
         verbose: bool,
         format: Format,
         questions: Questions,
     },
-    /// Tells what the fault of a number means.
+    /// Explains the fault of a number.
     Explain {
         number: u32,
     },
-    /// Tells what the end of a thread means that a report says with this word, and with a number behind it where that is
-    /// a trap.
+    /// Explains the end of a thread that a report shows with this word, and with a number after it if that is a trap.
     ExplainEnd {
         word: String,
         number: Option<u32>,
     },
 }
 
-/// That a file has what the source prints, run in the order that another file lists: 1 to 64 threads, each with so many
-/// ticks.
+/// The claim that a file has what the source prints, run in the order that another file lists: 1 to 64 threads, each
+/// with so many ticks.
 #[derive(Debug, Drop)]
 pub struct Claim {
     pub threads: u32,
@@ -64,8 +63,8 @@ pub struct Claim {
     pub ticks: u32,
 }
 
-/// With what the outcomes of 1 to 64 threads of a program are compared. Those of each program are found over at most so
-/// many states, and in a turn a thread makes at most so many steps of its code.
+/// The other side of a comparison of the outcomes of 1 to 64 threads of a program. Those of each program are found over
+/// at most so many states, and in a turn a thread makes at most so many steps of its code.
 #[derive(Debug, Drop)]
 pub struct Comparison {
     pub threads: u32,
@@ -76,17 +75,17 @@ pub struct Comparison {
     pub against: Against,
 }
 
-/// With what outcomes are compared.
+/// The other side of a comparison of outcomes.
 #[derive(Debug, Drop)]
 pub enum Against {
-    /// With those of the program in this file: each is to be one of these.
+    /// The outcomes of the program in this file: each is to be one of these.
     Refined { file: String },
-    /// With the list in this file: theirs is to be the same.
+    /// The list in this file: the outcomes are to be the same.
     Expected { file: String },
 }
 
-/// Which functions are to hold in the states that 1 to 64 threads come to, over at most so many states. In a turn a thread
-/// makes at most so many steps of its code, and a function takes at most so many ticks.
+/// The functions that must hold in the states that 1 to 64 threads reach, over at most so many states. In a turn a
+/// thread makes at most so many steps of its code, and a function takes at most so many ticks.
 #[derive(Debug, Drop)]
 pub struct Questions {
     pub threads: u32,
@@ -94,38 +93,38 @@ pub struct Questions {
     pub limit: u32,
     /// How many MB states and list take at most.
     pub memory: u32,
-    /// Functions that are to hold in every state: their names, joined by commas.
+    /// Functions that must hold in every state: their names, joined by commas.
     pub always: Option<String>,
-    /// Functions that are to hold in every outcome.
+    /// Functions that must hold in every outcome.
     pub last: Option<String>,
     /// Whether the search continues once each function has failed.
     pub keeps_going: bool,
 }
 
-/// How the fault of a source is told.
+/// How the fault of a source is reported.
 #[derive(Clone, Copy, PartialEq, Eq, Debug)]
 pub enum Format {
-    /// By the fault's number and place.
+    /// By the fault's number and position.
     Plain,
-    /// As compilers tell faults, which editors read.
+    /// In the format of compilers' diagnostics, which editors read.
     Short,
-    /// As an object of JSON.
+    /// As a JSON object.
     Json,
 }
 
-/// What is told beside a verdict on a program.
+/// The output in addition to a verdict on a program.
 #[derive(Clone, Copy, Debug)]
 pub struct CheckOptions {
-    /// Whether it is told what is warned of a program that is accepted.
+    /// Whether the warnings about an accepted program are reported.
     pub warns: bool,
-    /// Whether more faults than the first are told of one that is refused.
+    /// Whether more faults than the first of a refused program are reported.
     pub all: bool,
 }
 
-/// What is done with a program.
+/// A task with a program.
 #[derive(Debug, Drop)]
 pub enum Task {
-    /// Says whether the program is accepted.
+    /// Reports whether the program is accepted.
     Check(CheckOptions),
     /// Lists the program's code.
     Listing,
@@ -133,7 +132,7 @@ pub enum Task {
     Run {
         threads: u32,
         budget: u32,
-        /// Whether it is told what was counted of each thread.
+        /// Whether the counts of each thread are reported.
         counts: bool,
         memory: u32,
     },
@@ -181,14 +180,14 @@ pub enum Task {
     },
 }
 
-/// Where the steps of a replay come from.
+/// The source of a replay's steps.
 #[derive(Debug, Drop)]
 pub enum Steps {
     /// A file with a schedule.
     Schedule { file: String },
     /// A seed, for 0 to 1,048,576 steps.
     Seed { seed: u32, count: u32 },
-    /// An order of threads, each of which makes a whole transaction where it is named.
+    /// An order of threads, each of which makes a whole transaction at each of its entries.
     Order { order: Vec<u32> },
 }
 
@@ -197,10 +196,10 @@ pub enum Steps {
 pub enum UsageFault {
     #[error("out of memory")]
     OutOfMemory,
-    /// Help or the version was asked for; this is its text.
+    /// Help or the version was requested; this is its text.
     #[error("{text}")]
     Help { text: String },
-    /// The words are no command line of the program; this says why.
+    /// The words are no command line of the program; this is the reason.
     #[error("{text}")]
     Wrong { text: String },
 }

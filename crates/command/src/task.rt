@@ -2,8 +2,9 @@
 
 ghost use Rattle.std.specs.Prelude.{◌≡◌, ◌≤◌, ◌↔◌, ℕ, List, IfOk, IfErr, IsTrue, Some, None, codes, false, string_bytes};
 ghost use Rattle.clap.specs.Words.{first_of, found_of, rows_of};
-ghost use Rattle.command.specs.Asked.{AreCounted, AreScheduled, AreSteps, AreThreadsGiven, IsNotBoth, IsNumberInRange};
-ghost use Rattle.command.specs.Asked.{AreUncompared, IsFirstDrawn, IsOrderGiven, IsTask, are_asked};
+ghost use Rattle.command.specs.Asked.{AreCounted, AreScheduled, AreSteps, AreThreadsExplored, AreThreadsGiven};
+ghost use Rattle.command.specs.Asked.{AreUncompared, IsFirstDrawn, IsNotBoth, IsNumberInRange, IsOrderGiven, IsTask};
+ghost use Rattle.command.specs.Asked.{are_asked};
 ghost use Rattle.command.specs.declared.request.Steps.{Steps};
 ghost use Rattle.command.specs.inner.Refusals.{AreNoTask, IsOutOfRange, IsOwn};
 
@@ -50,6 +51,14 @@ pub(crate) fn threads(alloc: Global, given: &ArgMatches<'_>) -> Result<u32, Usag
     ensures err { IfErr result (IsOwn ((n : ℕ) → AreThreadsGiven (rows_of (found_of given.now)) n → ⊥)) }
 {
     number(alloc, given, "threads", 1, 1, MOST_THREADS)
+}
+
+/// The number of threads whose orders are explored: one thread has a single order, so the default is two.
+pub(crate) fn threads_explored(alloc: Global, given: &ArgMatches<'_>) -> Result<u32, UsageFault>
+    ensures ok { IfOk result (AreThreadsExplored (rows_of (found_of given.now))) }
+    ensures err { IfErr result (IsOwn ((n : ℕ) → AreThreadsExplored (rows_of (found_of given.now)) n → ⊥)) }
+{
+    number(alloc, given, "threads", 2, 1, MOST_THREADS)
 }
 
 /// How many steps are asked for.
@@ -208,7 +217,7 @@ fn outcomes(alloc: Global, given: &ArgMatches<'_>) -> Result<Task, UsageFault>
     ensures err { IfErr result (IsOwn (AreNoTask (codes "outcomes") (rows_of (found_of given.now)))) }
 {
     Ok(Task::Outcomes {
-        threads: threads(alloc, given)?,
+        threads: threads_explored(alloc, given)?,
         steps: number(alloc, given, "steps", 1000000, 0, u32::MAX)?,
         limit: number(alloc, given, "limit", 1000000, 0, u32::MAX)?,
         memory: number(alloc, given, "memory", 1024, 0, u32::MAX)?,

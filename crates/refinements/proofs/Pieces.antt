@@ -1,6 +1,9 @@
 -- Pieces of a text, each put behind those before.
 use Rattle.std.proofs.Common.{◌≡◌, ℕ, List, [], ◌++◌, append_assoc}
 
+pub three_joined : (before a b c one two three : List ℕ) → one ≡ before ++ a → two ≡ one ++ b → three ≡ two ++ c → three ≡ before ++ (a ++ b ++ c)
+three_joined before a b c one two three first second third = rw (third, second, first) (simp append_assoc)
+
 pub six_joined : (a b c d e f one two three four five six : List ℕ) → one ≡ [] ++ a → two ≡ one ++ b → three ≡ two ++ c → four ≡ three ++ d → five ≡ four ++ e → six ≡ five ++ f → six ≡ (a ++ b ++ c) ++ d ++ e ++ f
 six_joined a b c d e f one two three four five six first second third fourth fifth sixth = rw (sixth, fifth, fourth, third, second, first) (simp append_assoc)
 

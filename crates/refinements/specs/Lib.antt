@@ -1,4 +1,4 @@
--- which outcomes show what others do
+-- outcomes that show what others do
 pub mod ShownBy
--- what is told of them
+-- the text that reports them
 pub mod Told

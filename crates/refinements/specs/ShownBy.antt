@@ -1,4 +1,4 @@
--- Which outcomes show what others do.
+-- Outcomes that show what others do.
 use Rattle.std.specs.Prelude.{◌≡◌, List, All, Contains}
 use Rattle.report.specs.OutcomeList.{ReportedOrder, reports}
 use Rattle.report.specs.Printed.{Printed}

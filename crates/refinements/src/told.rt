@@ -1,8 +1,9 @@
 //! What is told of outcomes that are another program's, or are not.
 
 ghost use Rattle.std.specs.Prelude.{◌≡◌, ◌++◌, IfOk, OnOk, codes, decimal, flat_map};
-ghost use Rattle.report.specs.OutcomeList.{order_word};
+ghost use Rattle.report.specs.OutcomeList.{order_word, walk_words};
 ghost use Rattle.report.specs.Views.{reported_of};
+ghost use Rattle.report.specs.declared.outcome_list.WalkEnd.TheVariants.{Whole};
 ghost use Rattle.refinements.specs.Told as spec;
 
 use itoa::Buffer;
@@ -45,14 +46,24 @@ fn push_order<A: Allocator>(text: &mut Vec<u8, A>, order: &[u32]) -> Result<(), 
     push_others(text, others)
 }
 
+/// Adds the number of threads, and ends the line.
+fn push_threads<A: Allocator>(text: &mut Vec<u8, A>, threads: u32) -> Result<(), AllocError>
+    ensures { OnOk result (text.new.items ≡ text.old.items ++ walk_words threads Whole) }
+{
+    push_bytes(text, b", threads: ")?;
+    push_number(text, u64::from(threads))?;
+    push_bytes(text, b"\n")
+}
+
 /// The line that says that each of so many outcomes is one of another program's.
 pub fn refined_text<A: Allocator>(
     alloc: A,
     name: &str,
     outcomes: u64,
     others: u64,
+    threads: u32,
 ) -> Result<Vec<u8, A>, AllocError>
-    ensures { IfOk result (λ r. r.items ≡ spec.refined_text name.now outcomes others) }
+    ensures { IfOk result (λ r. r.items ≡ spec.refined_text name.now outcomes others threads) }
 {
     let mut text = Vec::new(alloc);
     push_bytes(&mut text, b"== refines ")?;
@@ -61,7 +72,7 @@ pub fn refined_text<A: Allocator>(
     push_number(&mut text, outcomes)?;
     push_bytes(&mut text, b" of ")?;
     push_number(&mut text, others)?;
-    push_bytes(&mut text, b"\n")?;
+    push_threads(&mut text, threads)?;
     Ok(text)
 }
 

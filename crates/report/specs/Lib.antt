@@ -1,4 +1,4 @@
--- what a report shows
+-- the content of a report
 pub mod Printed
 -- the text of a report
 pub mod Report
@@ -10,11 +10,11 @@ pub mod OutcomeList
 pub mod Timeline
 -- the Rust types as plain ones
 pub mod Views
--- the text of what was found of properties
+-- the text of the findings about properties
 pub mod Properties
 -- their Rust types as plain ones
 pub mod PropertyViews
 -- the orders of a set
 pub mod Listed
--- what only private functions speak of
+-- definitions for private functions alone
 pub mod inner

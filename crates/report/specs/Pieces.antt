@@ -1,11 +1,11 @@
--- A report in pieces: lines of its own, and between them what threads have printed, where that lies.
+-- A report in pieces: lines of its own, and between them the output of threads, which is not copied.
 use Rattle.std.specs.Prelude.{ℕ, List, flat_map}
 use Rattle.report.specs.Printed as plain
 use Rattle.report.specs.declared.pieces.ThreadSeen.{ThreadSeen}
 use Rattle.report.specs.declared.pieces.Piece.{Piece}
 use Rattle.report.specs.declared.pieces.Piece.TheVariants.{Lines, Text}
 
--- a thread whose text lies elsewhere
+-- a thread whose text is stored elsewhere
 abbrev pub seen_of : ThreadSeen → plain.ThreadShown
 seen_of thread = record { end = thread.end; text = thread.text.now }
 
@@ -14,6 +14,6 @@ module _ {A : Type 0} where
   bytes_of (Lines bytes) = bytes
   bytes_of (Text bytes) = bytes.now
 
-  -- pieces, one behind another
+  -- pieces, one after another
   abbrev pub joined : List (Piece A) → List ℕ
   joined = flat_map bytes_of

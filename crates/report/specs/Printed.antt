@@ -1,10 +1,10 @@
--- What a report shows.
+-- The content of a report.
 use Rattle.std.specs.Prelude.{ℕ, List, Option}
 use Rattle.lex.specs.declared.token.Scalar.{Scalar}
 pub use Rattle.machine.specs.declared.event.Event.{Event}
 pub use Rattle.report.specs.declared.printed.End.{End}
 
--- a thread: how it is found, and what it has printed
+-- a thread: its status, and its output
 pub record ThreadShown : Type 0 where
   pub end : End
   pub text : List ℕ
@@ -15,8 +15,8 @@ pub record Shown : Type 0 where
   pub ty : Scalar
   pub words : List ℕ
 
--- the events of a replay, with the shared accesses made so far and the thread; the threads; the globals; who holds the
--- lock
+-- the events of a replay, with the shared accesses made so far and the thread; the threads; the globals; the holder of
+-- the lock
 pub record Printed : Type 0 where
   pub events : Option (List (ℕ × ℕ × Event))
   pub threads : List ThreadShown

@@ -10,7 +10,7 @@ use Rattle.report.specs.declared.printed.End.TheVariants.{Ended, Trapped, OutOfM
 use Rattle.report.specs.declared.printed.End.TheVariants.{Waits, Spent}
 use Rattle.report.specs.Printed.{Event, End, ThreadShown, Shown, Printed}
 
--- what happened in a step; a quiet one is not told
+-- the event of a step; a quiet one is not shown
 abbrev pub event_words : Event → Option (List ℕ)
 event_words event.Quiet = None
 event_words event.Commit = Some (codes "commit")
@@ -18,7 +18,7 @@ event_words event.Abort = Some (codes "abort")
 event_words event.Cancel = Some (codes "cancel")
 event_words (event.Trap k) = Some (codes "trap " ++ decimal (trap_number k))
 
--- an event's line: the shared accesses made so far, the thread, and what happened
+-- an event's line: the shared accesses made so far, the thread, and the event
 abbrev pub event_line : ℕ × ℕ × Event → List ℕ
 event_line e =
     unwrap_or (option_map (λ words. decimal e.0 ++ codes " " ++ decimal e.1 ++ codes " " ++ words ++ codes "\n")
@@ -28,7 +28,7 @@ abbrev pub events_text : Option (List (ℕ × ℕ × Event)) → List ℕ
 events_text None = []
 events_text (Some events) = codes "== events\n" ++ flat_map event_line events
 
--- how a thread is found
+-- the status of a thread
 abbrev pub end_words : End → List ℕ
 end_words Ended = codes "ended"
 end_words (Trapped k) = codes "trap " ++ decimal (trap_number k)
@@ -39,7 +39,7 @@ end_words Running = codes "running"
 end_words Waits = codes "waits"
 end_words Spent = codes "spent"
 
--- a text that has a byte and does not end with LF
+-- a text that is not empty and does not end with LF
 abbrev pub is_open : List ℕ → Bool
 is_open text = not (unwrap_or (option_map (λ b. b == 10) (slice_get text (length text - 1))) true)
 
@@ -47,11 +47,11 @@ is_open text = not (unwrap_or (option_map (λ b. b == 10) (slice_get text (lengt
 abbrev pub lines_of : List ℕ → List ℕ
 lines_of text = text ++ (if is_open text then codes "\n" else [])
 
--- the numbers that words stand for, each after a space
+-- the numbers that words denote, each after a space
 abbrev pub values_text : Scalar → List ℕ → List ℕ
 values_text ty = flat_map (λ w. codes " " ++ signed_decimal (number ty w))
 
--- how a thread is found, and what it has printed
+-- the status of a thread, and its output
 abbrev pub thread_text : ℕ → ThreadShown → List ℕ
 thread_text t thread =
     codes "== thread " ++ decimal t ++ codes ": " ++ end_words thread.end ++ codes "\n" ++ lines_of thread.text

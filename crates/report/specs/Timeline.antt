@@ -13,7 +13,7 @@ use Rattle.report.specs.declared.printed.End.TheVariants.{Ended, Trapped}
 use Rattle.report.specs.Printed.{Event}
 use Rattle.report.specs.Report.{end_words, event_words}
 
--- what stands at the thread's place: the place and its instruction; or that the thread is over
+-- the thread's program counter and the instruction there; or that the thread has terminated
 abbrev pub place_words : Code → Status → ℕ → List ℕ
 place_words code Running place = decimal place ++ codes " " ++ text_at code place
 place_words code HasEnded place = end_words Ended
@@ -35,16 +35,16 @@ answer_words (Value value) = codes " = " ++ decimal value
 answer_words Won = codes ": won"
 answer_words (Lost value) = codes ": lost, " ++ decimal value
 
--- what happened in the step, if that is told
+-- the event of the step, if it is shown
 abbrev pub happened_words : Event → List ℕ
 happened_words e = unwrap_or (option_map (λ words. codes "; " ++ words) (event_words e)) []
 
--- what is shown of a step: what stands at its thread's place, the access, its answer, and what happened
+-- the content of a step's line: its thread's program counter and instruction, the access, its answer, and the event
 abbrev pub shown_words : Code → StepShown → List ℕ
 shown_words code s =
     place_words code s.status s.place ++ access_words s.access ++ answer_words s.answer ++ happened_words s.event
 
--- what a step's line says: the shared accesses made so far, the thread, and what is shown
+-- a step's line: the shared accesses made so far, the thread, and the content
 abbrev pub step_words : Code → ℕ × ℕ × StepShown → List ℕ
 step_words code s = decimal s.0 ++ codes " " ++ decimal s.1 ++ codes " " ++ shown_words code s.2
 

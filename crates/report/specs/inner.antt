@@ -1,2 +1,2 @@
--- by which number a report is found
+-- the number by which a report is found
 pub mod Hashed

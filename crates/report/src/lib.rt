@@ -1,5 +1,5 @@
-//! Reports: what a run, a replay or a run of the source leaves, as text; lists of outcomes and of stuck orders, each with
-//! a report; what was found of properties; and what is shown of each step of a replay.
+//! Reports: the results of a run, a replay or a run of the source, as text; lists of outcomes and of stuck orders, each
+//! with a report; the findings about properties; and the line of each step of a replay.
 #![tactic(auto)]
 
 mod each_once;

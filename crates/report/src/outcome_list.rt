@@ -1,8 +1,8 @@
-//! The text of a list of outcomes: each with an order of threads that leads to it and the report of that order; and of
-//! orders that are stuck.
+//! The text of a list of outcomes, each with an order of threads that leads to it and the report of that order, and of
+//! stuck orders.
 
 ghost use Rattle.std.specs.Prelude.{◌≡◌, ◌++◌, OnOk, IfOk, codes, decimal, flat_map, map};
-ghost use Rattle.report.specs.OutcomeList.{count_line, order_text, order_word, stop_words};
+ghost use Rattle.report.specs.OutcomeList.{count_line, order_text, order_word, stop_words, walk_words};
 ghost use Rattle.report.specs.OutcomeList as spec;
 ghost use Rattle.report.specs.Views.{reported_of};
 
@@ -17,11 +17,11 @@ use std::alloc::{AllocError, Allocator};
 pub struct ReportedOrder<A: Allocator = std::alloc::Global> {
     /// The threads' numbers.
     pub order: Items<u32, A>,
-    /// What the report of that order shows.
+    /// The content of the report of that order.
     pub shown: Printed<A>,
 }
 
-/// How a walk over the states of threads came to its end.
+/// How a walk over the states of threads ended.
 #[derive(Clone, Copy, PartialEq, Eq)]
 pub enum WalkEnd {
     /// All states were found.
@@ -56,7 +56,7 @@ fn push_order<A: Allocator>(list: &mut Vec<u8, A>, order: &[u32]) -> Result<(), 
     push_others(list, others)
 }
 
-/// Adds orders, each behind these words and with its report.
+/// Adds orders, each after these words and with its report.
 pub(crate) fn push_orders<A: Allocator + Copy>(
     alloc: A,
     list: &mut Vec<u8, A>,
@@ -72,7 +72,7 @@ pub(crate) fn push_orders<A: Allocator + Copy>(
     Ok(())
 }
 
-/// Adds an order behind these words, and its report.
+/// Adds an order after these words, and its report.
 pub(crate) fn push_reported<A: Allocator + Copy>(
     alloc: A,
     list: &mut Vec<u8, A>,
@@ -88,8 +88,8 @@ pub(crate) fn push_reported<A: Allocator + Copy>(
     push_bytes(list, report.as_slice())
 }
 
-/// Adds the end of the last line: at what a walk was stopped, where there may be more.
-pub(crate) fn push_stop<A: Allocator>(list: &mut Vec<u8, A>, end: WalkEnd) -> Result<(), AllocError>
+/// Adds the end of a line: the limit that stopped the walk, if one did.
+fn push_stop<A: Allocator>(list: &mut Vec<u8, A>, end: WalkEnd) -> Result<(), AllocError>
     ensures { OnOk result (list.new.items ≡ list.old.items ++ stop_words end) }
 {
     match end {
@@ -100,15 +100,29 @@ pub(crate) fn push_stop<A: Allocator>(list: &mut Vec<u8, A>, end: WalkEnd) -> Re
     }
 }
 
-/// Adds how many outcomes and stuck orders there are, over how many states, and whether there may be more.
+/// Adds the end of a line about a walk: the number of threads, and the limit that stopped the walk, if one did.
+pub(crate) fn push_walk_words<A: Allocator>(
+    list: &mut Vec<u8, A>,
+    threads: u32,
+    end: WalkEnd,
+) -> Result<(), AllocError>
+    ensures { OnOk result (list.new.items ≡ list.old.items ++ walk_words threads end) }
+{
+    push_bytes(list, b", threads: ")?;
+    push_number(list, u64::from(threads))?;
+    push_stop(list, end)
+}
+
+/// Adds how many outcomes and stuck orders so many threads have, over how many states, and whether there may be more.
 fn push_count<A: Allocator>(
     list: &mut Vec<u8, A>,
     outcomes: u64,
     stuck: u64,
     states: u64,
+    threads: u32,
     end: WalkEnd,
 ) -> Result<(), AllocError>
-    ensures { OnOk result (list.new.items ≡ list.old.items ++ count_line outcomes stuck states end) }
+    ensures { OnOk result (list.new.items ≡ list.old.items ++ count_line outcomes stuck states threads end) }
 {
     push_bytes(list, b"== outcomes: ")?;
     push_number(list, outcomes)?;
@@ -116,21 +130,22 @@ fn push_count<A: Allocator>(
     push_number(list, stuck)?;
     push_bytes(list, b", states: ")?;
     push_number(list, states)?;
-    push_stop(list, end)
+    push_walk_words(list, threads, end)
 }
 
 /// The text of a list: each outcome with its order and the report of that, each stuck order likewise, and then a line
-/// with how many they are, over how many states they were found, and at what the walk was stopped, where it was and there
-/// may be more.
+/// with their number, the number of states over which they were found, the number of threads, and the limit that
+/// stopped the walk, if one did.
 pub fn list_text<A: Allocator + Copy>(
     alloc: A,
     outcomes: &[ReportedOrder<A>],
     stuck: &[ReportedOrder<A>],
     states: u64,
+    threads: u32,
     end: WalkEnd,
 ) -> Result<Vec<u8, A>, AllocError>
     ensures { IfOk result (λ r. r.items
-        ≡ spec.list_text (map reported_of outcomes.now) (map reported_of stuck.now) states end) }
+        ≡ spec.list_text (map reported_of outcomes.now) (map reported_of stuck.now) states threads end) }
 {
     let mut list = Vec::new(alloc);
     push_orders(alloc, &mut list, b"== outcome --order ", outcomes)?;
@@ -140,6 +155,7 @@ pub fn list_text<A: Allocator + Copy>(
         outcomes.len() as u64,
         stuck.len() as u64,
         states,
+        threads,
         end,
     )?;
     Ok(list)

@@ -1,4 +1,4 @@
-//! The text of a report in pieces, so that it is written without a copy of what threads have printed.
+//! The text of a report in pieces, so that it is written without a copy of the output of threads.
 
 ghost use Rattle.std.specs.Prelude.{◌≡◌, ◌++◌, OnOk, IfOk, codes, decimal, map};
 ghost use Rattle.report.specs.Pieces.{bytes_of, joined, seen_of};
@@ -12,7 +12,7 @@ use containers::Items;
 use machine::Event;
 use std::alloc::{AllocError, Allocator};
 
-/// What is shown of a thread whose text lies elsewhere.
+/// A thread as it is shown, with its text stored elsewhere.
 #[derive(Clone, Copy)]
 pub struct ThreadSeen<'a> {
     pub end: End,
@@ -25,7 +25,7 @@ pub struct ThreadSeen<'a> {
 pub enum Piece<'a, A: Allocator = std::alloc::Global> {
     /// Lines of the report.
     Lines(Items<u8, A>),
-    /// What a thread has printed, or what ends its last line.
+    /// The output of a thread, or the LF that ends its last line.
     Text(&'a [u8]),
 }
 
@@ -41,7 +41,7 @@ impl<A: Allocator> Piece<'_, A> {
     }
 }
 
-/// A thread, its text where that lies.
+/// A thread, with a reference to its text.
 fn one_seen<A: Allocator>(thread: &ThreadShown<A>) -> ThreadSeen<'_>
     ensures { seen_of result ≡ thread_of thread.now }
 {
@@ -51,7 +51,7 @@ fn one_seen<A: Allocator>(thread: &ThreadShown<A>) -> ThreadSeen<'_>
     }
 }
 
-/// Threads, their texts where they lie.
+/// Threads, with references to their texts.
 fn all_seen<'a, A: Allocator>(
     alloc: A,
     threads: &'a [ThreadShown<A>],
@@ -76,7 +76,7 @@ fn push_piece<'a, A: Allocator>(
     Ok(())
 }
 
-/// The line that tells how a thread is found.
+/// The line with the status of a thread.
 fn thread_line<A: Allocator>(alloc: A, number: u64, end: End) -> Result<Items<u8, A>, AllocError>
     ensures { IfOk result (λ v. v ≡ codes "== thread " ++ decimal number ++ codes ": " ++ end_words end ++ codes "\n") }
 {
@@ -89,7 +89,7 @@ fn thread_line<A: Allocator>(alloc: A, number: u64, end: End) -> Result<Items<u8
     Ok(Items::from_vec(line))
 }
 
-/// Adds a thread: how it is found, and what it has printed.
+/// Adds a thread: its status, and its output.
 fn push_seen<'a, A: Allocator + Copy>(
     alloc: A,
     pieces: &mut Vec<Piece<'a, A>, A>,
@@ -153,7 +153,7 @@ fn memory_lines<A: Allocator>(
     Ok(Items::from_vec(lines))
 }
 
-/// The text of a report, as `report_text` has it, in pieces: what threads have printed stays where it lies.
+/// The text of a report, as `report_text` has it, in pieces: the output of threads is not copied.
 pub fn report_pieces<'a, A: Allocator + Copy>(
     alloc: A,
     events: &Option<Items<(u64, u32, Event), A>>,
@@ -178,7 +178,7 @@ pub fn report_pieces<'a, A: Allocator + Copy>(
     Ok(pieces)
 }
 
-/// The text of a report in pieces, what threads have printed where it lies.
+/// The text of a report in pieces, with references to the output of threads.
 pub fn pieces_of<'a, A: Allocator + Copy>(
     alloc: A,
     printed: &'a Printed<A>,

@@ -1,4 +1,4 @@
-//! What a report shows.
+//! The content of a report.
 
 use containers::{Items, Text};
 use lex::token::Scalar;
@@ -6,28 +6,28 @@ use machine::Event;
 use std::alloc::Allocator;
 use syntax::thread_end::Trap;
 
-/// How a thread is found.
+/// The status of a thread.
 #[derive(Clone, Copy, PartialEq, Eq)]
 pub enum End {
-    /// The thread has come to its end.
+    /// The thread has terminated.
     Ended,
     /// The thread has trapped.
     Trapped(Trap),
-    /// Memory was refused.
+    /// An allocation failed.
     OutOfMemory,
     /// The thread would take the lock, whose numbers are used up.
     SequenceUsedUp,
     /// The thread's steps are used up.
     Budget,
-    /// The thread would go on: a replay ends before it does.
+    /// The thread would continue: a replay ends before it does.
     Running,
-    /// The thread waits for its turn: an order of threads ends before it does.
+    /// The thread is blocked until its turn: an order of threads ends before it does.
     Waits,
-    /// The thread's ticks are used up.
+    /// The thread is out of fuel.
     Spent,
 }
 
-/// What is shown of a thread.
+/// A thread as it is shown.
 #[derive(Drop)]
 pub struct ThreadShown<A: Allocator = std::alloc::Global> {
     pub end: End,
@@ -35,7 +35,7 @@ pub struct ThreadShown<A: Allocator = std::alloc::Global> {
     pub text: Items<u8, A>,
 }
 
-/// What is shown of a global.
+/// A global as it is shown.
 #[derive(Drop)]
 pub struct Shown<A: Allocator = std::alloc::Global> {
     pub name: Text<A>,
@@ -44,16 +44,15 @@ pub struct Shown<A: Allocator = std::alloc::Global> {
     pub words: Items<u64, A>,
 }
 
-/// What a report shows.
+/// The content of a report.
 #[derive(Drop)]
 pub struct Printed<A: Allocator = std::alloc::Global> {
-    /// Of a replay: how many shared accesses all threads had made with a step, whose step it was, and what happened in
-    /// it.
+    /// Of a replay: for each step, how many shared accesses all threads had made with it, its thread, and its event.
     pub events: Option<Items<(u64, u32, Event), A>>,
     /// All threads, from thread 0 on.
     pub threads: Items<ThreadShown<A>, A>,
     /// In order of declaration.
     pub globals: Items<Shown<A>, A>,
-    /// The thread that holds the lock, where one does.
+    /// The thread that holds the lock, if one does.
     pub holder: Option<u32>,
 }

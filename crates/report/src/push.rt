@@ -41,7 +41,7 @@ fn push_trap<A: Allocator>(report: &mut Vec<u8, A>, trap: Trap) -> Result<(), Al
     push_number(report, u64::from(trap.number()))
 }
 
-/// Adds how a thread is found.
+/// Adds the status of a thread.
 pub(crate) fn push_end<A: Allocator>(report: &mut Vec<u8, A>, end: End) -> Result<(), AllocError>
     ensures { OnOk result (report.new.items ≡ report.old.items ++ end_words end) }
 {
@@ -67,7 +67,7 @@ pub(crate) fn is_open(text: &[u8]) -> bool
     }
 }
 
-/// Adds a text, and an LF where it is in the middle of a line.
+/// Adds a text, and an LF if it is in the middle of a line.
 pub(crate) fn push_lines<A: Allocator>(
     report: &mut Vec<u8, A>,
     text: &[u8],
@@ -82,7 +82,7 @@ pub(crate) fn push_lines<A: Allocator>(
     }
 }
 
-/// Adds the accesses made so far and the thread, behind which it is told what happened.
+/// Adds the accesses made so far and the thread, which the event follows.
 pub(crate) fn push_time_and_thread<A: Allocator>(
     report: &mut Vec<u8, A>,
     accesses: u64,
@@ -97,7 +97,7 @@ pub(crate) fn push_time_and_thread<A: Allocator>(
     push_bytes(report, b" ")
 }
 
-/// Adds what happened in a step, if that is told.
+/// Adds the event of a step, if it is shown.
 pub(crate) fn push_happened<A: Allocator>(
     report: &mut Vec<u8, A>,
     event: Event,
@@ -130,7 +130,7 @@ pub(crate) fn push_event<A: Allocator>(
     push_bytes(report, b"\n")
 }
 
-/// Adds the numbers that words stand for, with a space before each.
+/// Adds the numbers that words denote, with a space before each.
 fn push_values<A: Allocator>(
     report: &mut Vec<u8, A>,
     ty: Scalar,

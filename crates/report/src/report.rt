@@ -23,7 +23,7 @@ pub(crate) fn push_events<A: Allocator>(
     Ok(())
 }
 
-/// Adds a thread: how it is found, and what it has printed.
+/// Adds a thread: its status, and its output.
 fn push_thread<A: Allocator>(
     report: &mut Vec<u8, A>,
     number: u64,

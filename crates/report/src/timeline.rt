@@ -13,7 +13,7 @@ use norec_core::{Access, Answer};
 use std::alloc::{AllocError, Allocator};
 use syntax::thread_end::Status;
 
-/// Adds the place at which a thread stands, and the instruction there.
+/// Adds a thread's program counter, and the instruction there.
 fn push_instruction<A: Allocator + Copy>(
     alloc: A,
     report: &mut Vec<u8, A>,
@@ -28,7 +28,7 @@ fn push_instruction<A: Allocator + Copy>(
     push_bytes(report, text.as_str().as_bytes())
 }
 
-/// Adds what stands at a thread's place.
+/// Adds a thread's program counter and instruction, or its end.
 fn push_place<A: Allocator + Copy>(
     alloc: A,
     report: &mut Vec<u8, A>,
@@ -45,7 +45,7 @@ fn push_place<A: Allocator + Copy>(
     }
 }
 
-/// Adds words and a number behind them.
+/// Adds words and a number after them.
 fn push_numbered<A: Allocator>(
     report: &mut Vec<u8, A>,
     words: &[u8],
@@ -86,7 +86,7 @@ fn push_answer<A: Allocator>(report: &mut Vec<u8, A>, answer: Answer) -> Result<
     }
 }
 
-/// Adds what happened, where that is told.
+/// Adds the event, if it is shown.
 fn push_event_words<A: Allocator>(report: &mut Vec<u8, A>, event: Event) -> Result<(), AllocError>
     ensures { OnOk result (report.new.items ≡ report.old.items ++ happened_words event) }
 {
@@ -97,7 +97,7 @@ fn push_event_words<A: Allocator>(report: &mut Vec<u8, A>, event: Event) -> Resu
     push_happened(report, event)
 }
 
-/// Adds what is shown of a step.
+/// Adds the content of a step's line.
 fn push_shown<A: Allocator + Copy>(
     alloc: A,
     report: &mut Vec<u8, A>,
@@ -112,7 +112,7 @@ fn push_shown<A: Allocator + Copy>(
     push_event_words(report, shown.event)
 }
 
-/// Adds what the line of a step says.
+/// Adds the line of a step, without the LF.
 fn push_step<A: Allocator + Copy>(
     alloc: A,
     report: &mut Vec<u8, A>,
@@ -143,8 +143,7 @@ fn push_line<A: Allocator + Copy>(
 }
 
 /// The line of a step in a timeline, without the LF: the accesses to the lock or the words that all threads had made
-/// with it, its thread, what stands at the thread's place in the code, the step's access with its answer, and what
-/// happened.
+/// with it, its thread, the thread's program counter and instruction, the step's access with its answer, and the event.
 pub fn step_text<A: Allocator + Copy>(
     alloc: A,
     code: &Code<A>,

@@ -30,20 +30,20 @@ use Rattle.serving.proofs.Verdicts.{at_most_five, not_five, not_one, not_zero}
 
 -- ---- what was found by one definition was found by another
 
-module _ (Is Are : WalkEnd → List Property → List ReportedOrder → Type 0) (so : (end : WalkEnd) (ps : List Property) (ss : List ReportedOrder) → Is end ps ss → Are end ps ss) where
-  tells_so : (status : ℕ) (old new : Option (List ℕ)) → TellsProperties Is status old new → TellsProperties Are status old new
+module _ (threads : ℕ) (Is Are : WalkEnd → List Property → List ReportedOrder → Type 0) (so : (end : WalkEnd) (ps : List Property) (ss : List ReportedOrder) → Is end ps ss → Are end ps ss) where
+  tells_so : (status : ℕ) (old new : Option (List ℕ)) → TellsProperties threads Is status old new → TellsProperties threads Are status old new
   tells_so status old new tells = record {
     held = λ e. let h = tells.held e in (h.0, so Whole h.0 [] h.1, h.2, h.3);
     failed = λ e. let f = tells.failed e in (f.0, f.1, f.2, so f.2 f.0 f.1 f.3, f.4, f.5);
   }
 
-  text_so : (written : List ℕ) → IsTextOfProperties Is written → IsTextOfProperties Are written
+  text_so : (written : List ℕ) → IsTextOfProperties threads Is written → IsTextOfProperties threads Are written
   text_so written is = (is.0, is.1, is.2, so is.2 is.0 is.1 is.3, is.4)
 
-  parts_so : (old new : Option (List ℕ)) → WritesPart (IsTextOfProperties Is) old new → WritesPart (IsTextOfProperties Are) old new
-  parts_so old new = part_so (IsTextOfProperties Is) (IsTextOfProperties Are) old new text_so
+  parts_so : (old new : Option (List ℕ)) → WritesPart (IsTextOfProperties threads Is) old new → WritesPart (IsTextOfProperties threads Are) old new
+  parts_so old new = part_so (IsTextOfProperties threads Is) (IsTextOfProperties threads Are) old new text_so
 
-  pub prints_so : (status : ℕ) (old new : Option (List ℕ)) → PrintsProperties Is status old new → PrintsProperties Are status old new
+  pub prints_so : (status : ℕ) (old new : Option (List ℕ)) → PrintsProperties threads Is status old new → PrintsProperties threads Are status old new
   prints_so status old new s = serves_so s (tells_so status old new) (parts_so old new)
 
 -- of an accepted program, and of the text that spells it
@@ -54,21 +54,21 @@ module _ (questions : Questions) (text : List ℕ) (source : ParsedSource) (spel
   found_of_text : (end : WalkEnd) (ps : List Property) (ss : List ReportedOrder) → Theirs end ps ss → AreFoundOfText questions text end ps ss
   found_of_text end ps ss are = record { source = source; spelled = spelled; accepted = accepted; are = are }
 
-  pub serves_text : (status : ℕ) (old new : Option (List ℕ)) → PrintsProperties Theirs status old new → ServesQuestions questions (Some text) status old new
+  pub serves_text : (status : ℕ) (old new : Option (List ℕ)) → PrintsProperties questions.threads Theirs status old new → ServesQuestions questions (Some text) status old new
   serves_text status old new s =
-      serves_so (prints_so Theirs (AreFoundOfText questions text) found_of_text status old new s) (λ says. says) (λ writes. writes)
+      serves_so (prints_so questions.threads Theirs (AreFoundOfText questions text) found_of_text status old new s) (λ says. says) (λ writes. writes)
 
 -- of names that are the same
-pub prints_asked : (p : Program) (count steps : ℕ) (asked names : List IsAsked) (status : ℕ) (old new : Option (List ℕ)) → asked ≡ names → PrintsProperties (AreAnswered p count steps asked) status old new → PrintsProperties (AreAnswered p count steps names) status old new
-prints_asked p count steps asked names status old new same = subst (λ xs. PrintsProperties (AreAnswered p count steps xs) status old new) same
+pub prints_asked : (p : Program) (count steps : ℕ) (asked names : List IsAsked) (status : ℕ) (old new : Option (List ℕ)) → asked ≡ names → PrintsProperties count (AreAnswered p count steps asked) status old new → PrintsProperties count (AreAnswered p count steps names) status old new
+prints_asked p count steps asked names status old new same = subst (λ xs. PrintsProperties count (AreAnswered p count steps xs) status old new) same
 
 -- ---- a status that tells nothing
 
-pub tells_nothing : (Are : WalkEnd → List Property → List ReportedOrder → Type 0) (status : ℕ) (old new : Option (List ℕ)) → status ≢ 0 → status ≢ 5 → TellsProperties Are status old new
+pub tells_nothing : {threads : ℕ} (Are : WalkEnd → List Property → List ReportedOrder → Type 0) (status : ℕ) (old new : Option (List ℕ)) → status ≢ 0 → status ≢ 5 → TellsProperties threads Are status old new
 tells_nothing Are status old new zero five = record { held = λ e. absurd (zero e); failed = λ e. absurd (five e) }
 
 -- a refusal
-pub refused_prints : (Are : WalkEnd → List Property → List ReportedOrder → Type 0) (status : ℕ) (old new : Option (List ℕ)) → (status ≡ 2) ⊎ (status ≡ 4) → new ≡ old → PrintsProperties Are status old new
+pub refused_prints : {threads : ℕ} (Are : WalkEnd → List Property → List ReportedOrder → Type 0) (status : ℕ) (old new : Option (List ℕ)) → (status ≡ 2) ⊎ (status ≡ 4) → new ≡ old → PrintsProperties threads Are status old new
 refused_prints Are status old new is same = record {
   within = at_most_five status is;
   answers = tells_nothing Are status old new (not_zero status is) (not_five status is);
@@ -80,19 +80,19 @@ refused_prints Are status old new is same = record {
 -- ---- what was printed
 
 module _ (end : WalkEnd) (properties : List Property) (stuck : List ReportedOrder) where
-  pub tells_these : (status : ℕ) (old new : Option (List ℕ)) (text : List ℕ) → text ≡ properties_text properties stuck end → Appends old new text → (status ≡ 0 → end ≡ Whole) → (status ≡ 0 → has_unheld properties ≡ false) → (status ≡ 0 → stuck ≡ []) → (status ≡ 5 → has_failed properties ≡ true) → TellsProperties (AreThese end properties stuck) status old new
-  tells_these status old new text is writes whole held none failed = record {
+  pub tells_these : (threads status : ℕ) (old new : Option (List ℕ)) (text : List ℕ) → text ≡ properties_text properties stuck threads end → Appends old new text → (status ≡ 0 → end ≡ Whole) → (status ≡ 0 → has_unheld properties ≡ false) → (status ≡ 0 → stuck ≡ []) → (status ≡ 5 → has_failed properties ≡ true) → TellsProperties threads (AreThese end properties stuck) status old new
+  tells_these threads status old new text is writes whole held none failed = record {
     held = λ e. (
       properties,
       (sym (whole e), refl, sym (none e)),
       held e,
-      subst (λ ss. Appends old new (properties_text properties ss Whole)) (none e) (subst (λ w. Appends old new (properties_text properties stuck w)) (whole e) (subst (Appends old new) is writes)),
+      subst (λ ss. Appends old new (properties_text properties ss threads Whole)) (none e) (subst (λ w. Appends old new (properties_text properties stuck threads w)) (whole e) (subst (Appends old new) is writes)),
     );
     failed = λ e. (properties, stuck, end, (refl, refl, refl), failed e, subst (Appends old new) is writes);
   }
 
-  pub text_of_these : (text : List ℕ) → text ≡ properties_text properties stuck end → IsTextOfProperties (AreThese end properties stuck) text
-  text_of_these text is = (properties, stuck, end, (refl, refl, refl), is)
+  pub text_of_these : (threads : ℕ) (text : List ℕ) → text ≡ properties_text properties stuck threads end → IsTextOfProperties threads (AreThese end properties stuck) text
+  text_of_these threads text is = (properties, stuck, end, (refl, refl, refl), is)
 
   -- what is so of these is so of what is told
   pub these_so : (Are : WalkEnd → List Property → List ReportedOrder → Type 0) → Are end properties stuck → (e : WalkEnd) (ps : List Property) (ss : List ReportedOrder) → AreThese end properties stuck e ps ss → Are e ps ss

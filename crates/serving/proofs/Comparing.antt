@@ -133,7 +133,7 @@ module _ (p q : Program) (count : ℕ) (name : List ℕ) (end : WalkEnd) (outcom
       let one = one_with others has.0 among.0 among.0 has.1 has.2 in
       (one.0, of_all (IsOutcomeOf q count) others one.0 others_are.each one.1, subst (IsShownBy o.shown) (sym one.2) among.2)
 
-  pub says_refines : (w : List ℕ) → SaysShown name end outcomes stuck others_end others w → SaysRefines name count p q w
+  pub says_refines : (w : List ℕ) → SaysShown name count end outcomes stuck others_end others w → SaysRefines name count p q w
   says_refines w s = record {
     refines = refines s.whole s.each;
     outcomes = outcomes;
@@ -150,25 +150,25 @@ module _ (p q : Program) (count : ℕ) (name : List ℕ) (end : WalkEnd) (outcom
     none = λ u is by. none (u.shown, is_listed q count others_end others others_stuck others_are whole u is, by);
   }
 
-  pub shows_beyond : (w : List ℕ) → ShowsUnshown name end outcomes stuck others_end others w → ShowsBeyond name count p q w
+  pub shows_beyond : (w : List ℕ) → ShowsUnshown name count end outcomes stuck others_end others w → ShowsBeyond name count p q w
   shows_beyond w s = record { one = s.one; beyond = beyond s.others_whole s.one s.among s.none; shown = s.shown }
 
   abbrev pub Says : List ℕ → Type 0
-  Says = SaysShown name end outcomes stuck others_end others
+  Says = SaysShown name count end outcomes stuck others_end others
 
   abbrev pub Shows : List ℕ → Type 0
-  Shows = ShowsUnshown name end outcomes stuck others_end others
+  Shows = ShowsUnshown name count end outcomes stuck others_end others
 
   pub prints_refines : (status : ℕ) (old new : Option (List ℕ)) → PrintsEither Says Shows status old new → PrintsEither (SaysRefines name count p q) (ShowsBeyond name count p q) status old new
   prints_refines status old new s = prints_so Says Shows (SaysRefines name count p q) (ShowsBeyond name count p q) says_refines shows_beyond status old new s
 
 -- what is told where both lists are whole
-module _ (name : List ℕ) (end : WalkEnd) (outcomes stuck : List ReportedOrder) (others_end : WalkEnd) (others : List ReportedOrder) (status : ℕ) (old new : Option (List ℕ)) (others_whole : others_end ≡ Whole) where
+module _ (name : List ℕ) (threads : ℕ) (end : WalkEnd) (outcomes stuck : List ReportedOrder) (others_end : WalkEnd) (others : List ReportedOrder) (status : ℕ) (old new : Option (List ℕ)) (others_whole : others_end ≡ Whole) where
   abbrev pub Said : List ℕ → Type 0
-  Said = SaysShown name end outcomes stuck others_end others
+  Said = SaysShown name threads end outcomes stuck others_end others
 
   abbrev pub Shown : List ℕ → Type 0
-  Shown = ShowsUnshown name end outcomes stuck others_end others
+  Shown = ShowsUnshown name threads end outcomes stuck others_end others
 
   module _ (one : ReportedOrder) (among : Contains outcomes one) (none : IsShownAmong others one.shown → ⊥) where
     unshown : (w : List ℕ) → w ≡ beyond_text name one → Shown w
@@ -178,17 +178,17 @@ module _ (name : List ℕ) (end : WalkEnd) (outcomes stuck : List ReportedOrder)
     prints_beyond s = prints_so (λ (w : List ℕ). ⊥) (λ (w : List ℕ). w ≡ beyond_text name one) Said Shown (λ w no. absurd no) unshown status old new s
 
   module _ (whole : end ≡ Whole) (each : All (IsShownAmong others) (reports outcomes)) (n m : ℕ) (count : n ≡ length outcomes) (others_count : m ≡ length others) where
-    all_said : (w : List ℕ) → (stuck ≡ []) × (w ≡ refined_text name n m) → Said w
+    all_said : (w : List ℕ) → (stuck ≡ []) × (w ≡ refined_text name n m threads) → Said w
     all_said w is = record {
       whole = whole;
       others_whole = others_whole;
       none_stuck = is.0;
       each = each;
-      said = is.1 ∙ ap (λ k. refined_text name k m) count ∙ ap (refined_text name (length outcomes)) others_count;
+      said = is.1 ∙ ap (λ k. refined_text name k m threads) count ∙ ap (λ k. refined_text name (length outcomes) k threads) others_count;
     }
 
-    pub prints_all : PrintsEither (λ (w : List ℕ). (stuck ≡ []) × (w ≡ refined_text name n m)) (λ (w : List ℕ). ⊥) status old new → PrintsEither Said Shown status old new
-    prints_all s = prints_so (λ (w : List ℕ). (stuck ≡ []) × (w ≡ refined_text name n m)) (λ (w : List ℕ). ⊥) Said Shown all_said (λ w no. absurd no) status old new s
+    pub prints_all : PrintsEither (λ (w : List ℕ). (stuck ≡ []) × (w ≡ refined_text name n m threads)) (λ (w : List ℕ). ⊥) status old new → PrintsEither Said Shown status old new
+    prints_all s = prints_so (λ (w : List ℕ). (stuck ≡ []) × (w ≡ refined_text name n m threads)) (λ (w : List ℕ). ⊥) Said Shown all_said (λ w no. absurd no) status old new s
 
 -- the programs are those of two texts
 module _ (text other : List ℕ) (this that : ParsedSource) (spelled : IsSourceOf text this) (accepted : ∥ IsAccepted this.program ∥₁) (other_spelled : IsSourceOf other that) (other_accepted : ∥ IsAccepted that.program ∥₁) where

@@ -1,4 +1,4 @@
--- What is answered to a request: what a status says of what was printed, and what is written whatever it is.
+-- The response to a request: the meaning of a status for what was printed, and what is written for any status.
 use Rattle.std.specs.Prelude.{ℕ, List, Option, IfSome}
 use Rattle.command.specs.declared.request.Request.{Request}
 use Rattle.command.specs.declared.request.Request.TheVariants.{Program, Certify, Compare, Ask, Explain, ExplainEnd}
@@ -44,7 +44,7 @@ Answers (Source threads order ticks) schedule text status old new =
     PrintsReport (λ shown. RunsInOrder threads ticks order.items text shown × Accepts text) status old new
 Answers (Outcomes threads steps limit memory) schedule text status old new = PrintsOutcomes threads text status old new
 
--- a request, where these bytes are those of the file
+-- a request, if these are the bytes of the file
 abbrev pub AnswersRequest : Request → (schedule report : Option (List ℕ)) → (bytes : List ℕ) → (status : ℕ) →
     (old new : Option (List ℕ)) → Type 0
 AnswersRequest (Program file verbose format task) schedule report bytes status old new =
@@ -58,7 +58,7 @@ AnswersRequest (Ask file verbose format questions) schedule report bytes status 
 AnswersRequest (Explain number) schedule report bytes status old new = Unit {0}
 AnswersRequest (ExplainEnd word number) schedule report bytes status old new = Unit {0}
 
--- what is written for a request, where these bytes are those of the file
+-- what is written for a request, if these are the bytes of the file
 abbrev pub WritesFor : Request → (schedule report : Option (List ℕ)) → (bytes : Option (List ℕ)) →
     (old new : Option (List ℕ)) → Type 0
 WritesFor (Program file verbose format task) schedule report bytes old new =
@@ -72,7 +72,7 @@ WritesFor (Ask file verbose format questions) schedule report bytes old new =
 WritesFor (Explain number) schedule report bytes old new = Unit {0}
 WritesFor (ExplainEnd word number) schedule report bytes old new = Unit {0}
 
--- the most that the exit status of a request is
+-- the greatest exit status of a request
 abbrev pub most_status : Request → ℕ
 most_status (Program file verbose format task) = 4
 most_status (Certify file verbose format claim) = 5

@@ -1,5 +1,5 @@
--- Which functions of a program can be asked: those that take nothing and give an int, and whose call is a single step of
--- memory, since it does nothing that can't be undone.
+-- Which functions of a program can be properties: those that take nothing and return an int, and whose call is a single
+-- step of memory, since it does nothing that can't be undone.
 use Rattle.std.specs.Prelude.{◌≡◌, ℕ, List, [], Some, IsTrue, Contains, Decides}
 use Rattle.lex.specs.declared.token.Scalar.TheVariants.{Int}
 use Rattle.syntax.specs.Names.{definition_of}
@@ -14,16 +14,16 @@ CannotBeUndone set Relaxes = Unit {0}
 CannotBeUndone set (Calls f) = set f
 CannotBeUndone set c = ⊥
 
--- each function in which such a thing stands is in the set
+-- each function in which such a thing occurs is in the set
 abbrev pub IsIrrevocableSet : Program → (List ℕ → Type 0) → Type 0
 IsIrrevocableSet p set =
     (f : List ℕ) (s : Site) → Contains (sites_of p f) s → CannotBeUndone set s.construct → set f
 
--- irrevocable functions are those of the least such set: those that each such set has
+-- irrevocable functions are those of the least such set: those that are in every such set
 abbrev pub IsIrrevocable : Program → List ℕ → Type 0
 IsIrrevocable p f = (set : FunctionSet) → IsIrrevocableSet p (λ g. IsTrue (set g)) → IsTrue (set f)
 
--- the test that tells which functions are irrevocable
+-- the test of which functions are irrevocable
 abbrev pub TellsIrrevocable : Program → FunctionSet → Type 0
 TellsIrrevocable p irrevocable = (f : List ℕ) → Decides (irrevocable f) (IsIrrevocable p f)
 

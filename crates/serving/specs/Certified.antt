@@ -1,4 +1,4 @@
--- Certifying a report: whether it is what the source prints in an order of threads.
+-- Certifying a report: whether it is the one that the source prints in an order of threads.
 use Rattle.std.specs.Prelude.{◌≡◌, ℕ, List, Option, IfSome, codes}
 use Rattle.command.specs.Asked.{IsListedOrder}
 use Rattle.command.specs.declared.request.Claim.{Claim}
@@ -9,11 +9,11 @@ use Rattle.serving.specs.Verdicts.{IsEither, Tells}
 use Rattle.serving.specs.Written.{IsReportOf, WritesPart}
 
 module _ (IsDue : List ℕ → Type 0) (found : List ℕ) where
-  -- it is said that a text is the one that is due
+  -- the output reports that a text is the expected one
   abbrev pub SaysSo : List ℕ → Type 0
   SaysSo written = IsDue found × (written ≡ codes "certified\n")
 
-  -- the first line is shown in which it differs from one that is
+  -- the output shows the first line in which it differs from an expected one
   abbrev pub ShowsDifference : List ℕ → Type 0
   ShowsDifference written = (due : List ℕ) × (at : ℕ) × IsDue due × IsFirstDifference due found at
       × (written ≡ difference_text (codes "source") (codes "report") due found at)
@@ -28,14 +28,14 @@ abbrev pub OneReportIsPrinted : Type 0
 OneReportIsPrinted = (claim : Claim) (listed text one other : List ℕ) →
     IsPrintedInOrder claim listed text one → IsPrintedInOrder claim listed text other → one ≡ other
 
--- a claim, where these bytes are those of the source, of the order and of the report
+-- a claim, if these are the bytes of the source, of the order and of the report
 abbrev pub CertifiesReport : Claim → (listed report : Option (List ℕ)) → (text : List ℕ) → (status : ℕ) →
     (old new : Option (List ℕ)) → Type 0
 CertifiesReport claim listed report text status old new = IfSome listed (λ bytes. IfSome report
     (λ found. Tells (SaysSo (IsPrintedInOrder claim bytes text) found)
     (ShowsDifference (IsPrintedInOrder claim bytes text) found) status old new))
 
--- what is written for it, whatever the status
+-- what is written for it, for any exit status
 abbrev pub WritesVerdict : Claim → (listed report : Option (List ℕ)) → (text : List ℕ) →
     (old new : Option (List ℕ)) → Type 0
 WritesVerdict claim listed report text old new = IfSome listed (λ bytes. IfSome report

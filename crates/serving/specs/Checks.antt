@@ -18,6 +18,6 @@ pub record Accepts (text : List ℕ) : Type 0 where
   pub spelled : IsSourceOf text source
   pub accepted : ∥ IsAccepted source.program ∥₁
 
--- the status 0 tells of a source that is accepted, and that this was written
+-- the status 0 reports that a source is accepted, and that this was written
 abbrev pub SaysAccepted : List ℕ → ℕ → Option (List ℕ) → Option (List ℕ) → Type 0
 SaysAccepted text status old new = status ≡ 0 → Accepts text × Appends old new (codes "accepted\n")

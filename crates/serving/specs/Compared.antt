@@ -11,35 +11,35 @@ use Rattle.serving.specs.Refines.{SaysRefined, ShowsOther}
 use Rattle.serving.specs.Verdicts.{IsEither, Tells}
 use Rattle.serving.specs.Written.{WritesPart}
 
--- the name of the file that outcomes are compared with
+-- the name of the file with which outcomes are compared
 abbrev pub name_of : Against → List ℕ
 name_of (Refined file) = string_bytes file
 name_of (Expected file) = string_bytes file
 
--- it is said that it is so, of a text and of what is in that file
+-- the output reports that this holds of a text and of the content of that file
 abbrev pub Confirms : Against → (count : ℕ) → (text other written : List ℕ) → Type 0
 Confirms (Refined file) count text other written = SaysRefined (string_bytes file) count text other written
 Confirms (Expected file) count text other written = SaysExpected (IsListEnding Whole count text) other written
 
--- it is shown where it is not
+-- the output shows where it does not hold
 abbrev pub Denies : Against → (count : ℕ) → (text other written : List ℕ) → Type 0
 Denies (Refined file) count text other written = ShowsOther (string_bytes file) count text other written
 Denies (Expected file) count text other written = ShowsUnexpected (IsListEnding Whole count text) other written
 
--- a comparison, where these bytes are those of the source and of the other file
+-- a comparison, if these bytes are those of the source and of the other file
 abbrev pub ComparesOutcomes : Comparison → (other : Option (List ℕ)) → (text : List ℕ) → (status : ℕ) →
     (old new : Option (List ℕ)) → Type 0
 ComparesOutcomes c other text status old new = IfSome other
     (λ bytes. Tells (Confirms c.against c.threads text bytes) (Denies c.against c.threads text bytes) status old new)
 
--- what is written for it, whatever the status
+-- what is written for it, for any exit status
 abbrev pub WritesComparison : Comparison → (other : Option (List ℕ)) → (text : List ℕ) →
     (old new : Option (List ℕ)) → Type 0
 WritesComparison c other text old new = IfSome other
     (λ bytes. WritesPart (IsEither (Confirms c.against c.threads text bytes) (Denies c.against c.threads text bytes))
     old new)
 
--- why it is refused: the source has no code, or the other one
+-- why it is refused: the source has no code, or the other program has none
 abbrev pub HaveNoCode : Against → (other : Option (List ℕ)) → (text : List ℕ) → Type 0
 HaveNoCode (Refined file) other text = HasNoCode text ⊎ IfSome other (λ bytes. HasNoCode bytes)
 HaveNoCode (Expected file) other text = HasNoCode text

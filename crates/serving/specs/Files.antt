@@ -14,7 +14,7 @@ use Rattle.serving.specs.Refusals.{IsRefused}
 use Rattle.serving.specs.Refused.{IsRefusedFor}
 use Rattle.serving.specs.Written.{IsAskedFor, WritesPart}
 
--- the bytes of the file of each name, where they are known
+-- the bytes of the file of each name, if they are known
 abbrev pub Contents : Type 0
 Contents = List ℕ → Option (List ℕ)
 
@@ -25,12 +25,12 @@ schedule_of (Timeline threads (Schedule file)) = Some (string_bytes file)
 schedule_of (Picture threads from (Schedule file)) = Some (string_bytes file)
 schedule_of _ = None
 
--- the bytes of the file of this name; where there is no name, there is no byte
+-- the bytes of the file of this name; without a name there are none
 abbrev pub schedule_in : Contents → Option (List ℕ) → Option (List ℕ)
 schedule_in contents (Some name) = contents name
 schedule_in contents None = Some []
 
--- a request, where these are the bytes of files: what a status says of what was printed
+-- a request, if these are the bytes of files: the meaning of a status for what was printed
 abbrev pub AnswersFiles : Request → Contents → (status : ℕ) → (old new : Option (List ℕ)) → Type 0
 AnswersFiles (Program file verbose format task) contents status old new = IfSome (contents (string_bytes file))
     (λ bytes. Answers task (schedule_in contents (schedule_of task)) bytes status old new)
@@ -44,7 +44,7 @@ AnswersFiles (Ask file verbose format questions) contents status old new = IfSom
 AnswersFiles (Explain number) contents status old new = Unit {0}
 AnswersFiles (ExplainEnd word number) contents status old new = Unit {0}
 
--- what is written for a request, where these are the bytes of files
+-- what is written for a request, if these are the bytes of files
 abbrev pub WritesForFiles : Request → Contents → (old new : Option (List ℕ)) → Type 0
 WritesForFiles (Program file verbose format task) contents old new = IfSome (contents (string_bytes file))
     (λ bytes. WritesPart (IsAskedFor task (schedule_in contents (schedule_of task)) bytes) old new)

@@ -1,4 +1,4 @@
--- Laws of reports, what a report says of the machine and what it says of the source, and of refusals.
+-- Theorems about reports, relating them to the machine and to the source, and about refusals.
 use Rattle.std.specs.Prelude.{◌≡◌, ◌≤◌, ◌%◌, ◌^◌, ℕ, List, ◌∷◌, Option, None, Contains, is_some, false, true}
 use Rattle.syntax.specs.Grammar.{ParsedSource, deepest_program, source_depth}
 use Rattle.syntax.specs.Names.{initial_memory}
@@ -31,13 +31,13 @@ use Rattle.states.specs.Shown.{memory_in}
 use Rattle.serving.specs.Runs.{IsConcurrentRun, RunsConcurrently}
 use Rattle.serving.specs.Replays.{IsReplayOf, Replays, behind_events}
 
--- what a run of all threads shows, where each of them has ended or trapped, they show in some order
+-- a run of all threads shows what they show in some order, if each of them has ended or trapped
 abbrev pub ConcurrentRunsAreOrders : Type 0
 ConcurrentRunsAreOrders =
     (threads budget : ℕ) (text : List ℕ) (shown : Printed) → RunsConcurrently threads budget text shown →
     has_stopped shown ≡ false → RunsInSomeOrder threads text shown
 
--- what a replay shows behind its events, where each of its threads has ended or trapped, they show in some order
+-- a replay shows after its events what its threads show in some order, if each of them has ended or trapped
 abbrev pub ReplaysAreOrders : Type 0
 ReplaysAreOrders =
     (threads : ℕ) (steps : Steps) (schedule : Option (List ℕ)) (text : List ℕ) (shown : Printed) →
@@ -57,16 +57,16 @@ ConcurrentRunsLeaveOrders =
     (p : Program) (code : Code) (threads budget : ℕ) (shown : Printed) → IsCodeOf p code →
     IsConcurrentRun p code threads budget shown → shown.holder ≡ None → LeavesSomeOrder p threads shown
 
--- what threads show in some order, with some number of ticks, where each of them has ended or trapped, is among all
--- outcomes
+-- the list of all outcomes has what threads show in some order, with some number of ticks, if each of them has ended or
+-- trapped
 abbrev pub OrdersAreListed : Type 0
 OrdersAreListed =
     (threads : ℕ) (text : List ℕ) (outcomes : List ReportedOrder) (shown : Printed) →
     AreAllOutcomes threads text outcomes → RunsInSomeOrder threads text shown → has_stopped shown ≡ false →
     Contains (reports outcomes) shown
 
--- what always holds of a program holds of the words of every world that steps of the machine lead to, in which the lock
--- is free
+-- an invariant of a program holds of the words of every world that steps of the machine lead to in which the lock is
+-- free
 abbrev pub PropertiesHoldInWorlds : Type 0
 PropertiesHoldInWorlds =
     (p : Program) (code : Code) (threads : ℕ) (steps x : List ℕ) → IsValid code → IsCodeOf p code → threads ≤ 2 ^ 32 →
@@ -74,19 +74,19 @@ PropertiesHoldInWorlds =
     (world_after (effect code) (beginning code) (initial_memory p) threads steps).lock % 2 ≡ 0 →
     HoldsOf p x (world_after (effect code) (beginning code) (initial_memory p) threads steps).words
 
--- and of the words that real threads share, at every moment at which the lock is free
+-- and of the words that real threads share, whenever the lock is free
 abbrev pub PropertiesHoldOfSharedWords : Type 0
 PropertiesHoldOfSharedWords =
     (p : Program) (key : Setup) (lock : ℕ) (words x : List ℕ) (views : Views) → IsCodeOf p key.code →
     key.threads ≤ 2 ^ 32 → AlwaysHolds p key.threads x → IsRuled key (lock ∷ words) views → lock % 2 ≡ 0 →
     HoldsOf p x words
 
--- what is shown is the report of an order, and this holds of the memory that the order leaves
+-- the report of an order shows this, and this holds of the memory that the order leaves
 abbrev pub HoldsInReport : Program → (threads : ℕ) → (name : List ℕ) → Printed → Type 0
 HoldsInReport p threads x shown = (ticks : ℕ) × (order : List ℕ) × IsOrderOf p threads ticks order shown
     × HoldsOf p x (memory_in p threads ticks order)
 
--- what holds of a program once all threads have terminated holds in each report in which each thread has ended or trapped
+-- a property that holds once all threads have terminated holds in each report in which each has ended or trapped
 abbrev pub PropertiesHoldInReports : Type 0
 PropertiesHoldInReports =
     (threads : ℕ) (text x : List ℕ) (source : ParsedSource) (shown : Printed) → IsSourceOf text source →
@@ -106,7 +106,7 @@ abbrev pub AcceptedAreNotRefused : Type 0
 AcceptedAreNotRefused = (text : List ℕ) (is : Accepts text) → source_depth is.source ≤ deepest_program →
     IsRefused text → ⊥
 
--- where an accepted program within the depth has no code, a limit of code is passed at a place
+-- if an accepted program within the depth has no code, it exceeds a limit of code at a position
 abbrev pub AcceptedPassLimits : Type 0
 AcceptedPassLimits = (text : List ℕ) (is : Accepts text) → source_depth is.source ≤ deepest_program →
     HasNoCode text → (fault : LowerFault) × PassesLimit text fault × (is_some (span_of fault) ≡ true)

@@ -1,12 +1,12 @@
 -- words that are no request
 pub mod Usage
--- what a status says of a report
+-- the meaning of a status for a report
 pub mod Reports
--- what a file holds, as a source
+-- the content of a file, as a source
 pub mod Sources
 -- which sources are accepted
 pub mod Checks
--- what the report of an order shows
+-- the content of the report of an order
 pub mod Shows
 -- threads in an order
 pub mod Orders
@@ -26,33 +26,33 @@ pub mod Pictures
 pub mod Refusals
 -- why a program has no code
 pub mod Limits
--- what is refused, by what is asked
+-- why a source is refused, by request
 pub mod Refused
--- what orders show is what the machine can come to
+-- the machine can reach whatever orders show
 pub mod Possible
--- laws of reports
+-- theorems about reports
 pub mod Laws
 -- what is written for a request
 pub mod Written
--- whether something is so or not
+-- whether something holds or not
 pub mod Verdicts
 -- reports that are certified
 pub mod Certified
 -- outcomes that are those of another program
 pub mod Refines
--- lists of outcomes that are expected
+-- lists of expected outcomes
 pub mod Expected
 -- outcomes that are compared
 pub mod Compared
--- which functions of a program can be asked
+-- which functions of a program can be properties
 pub mod Askable
 -- properties of a source's text
 pub mod Properties
--- what is answered to a request
+-- the response to a request
 pub mod Answers
 -- the files that a request names
 pub mod Files
--- what is answered to words
+-- the response to words
 pub mod Words
--- what only private functions speak of
+-- definitions for private functions alone
 pub mod inner

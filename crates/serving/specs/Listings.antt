@@ -11,6 +11,6 @@ pub record ShowsListing (text listed : List ℕ) : Type 0 where
   pub compiled : Compiles text code
   pub lists : listed ≡ listing code
 
--- the status 0 tells of a listing that was written
+-- the status 0 reports that a listing was written
 abbrev pub PrintsListing : List ℕ → ℕ → Option (List ℕ) → Option (List ℕ) → Type 0
 PrintsListing text status old new = status ≡ 0 → (listed : List ℕ) × ShowsListing text listed × Appends old new listed

@@ -33,9 +33,9 @@ pub record RunsInSomeOrder (count : ℕ) (text : List ℕ) (shown : Printed) : T
   pub in_order : RunsInOrder count ticks order text shown
 
 -- In some order, each with some number of ticks, so many threads leave the globals shown; and each thread that is shown
--- to have ended or trapped shows this there. The order is that of a run of the source, and each thread, also one that
+-- to have ended or trapped shows this there. The order is that of a run of the source, and each thread, even one that
 -- still runs, has printed what the source's thread prints in that run with some number of ticks of its own, on the
--- memories that it finds there, and on the last one where it is inside a transaction.
+-- memories that it finds there, and on the last one if it is inside a transaction.
 pub record LeavesSomeOrder (p : Program) (count : ℕ) (shown : Printed) : Type 0 where
   pub ticks : ℕ
   pub order : List ℕ

@@ -1,4 +1,4 @@
--- What orders show is what the machine can come to: the same globals, texts and ends.
+-- The machine can reach whatever orders show: the same globals, texts and ends.
 use Rattle.std.specs.Prelude.{◌≡◌, ℕ, ◌≤◌, ◌<◌, ◌-◌, ◌^◌, List, length, map, None}
 use Rattle.syntax.specs.Names.{initial_memory}
 use Rattle.syntax.specs.Orders.{in_order}
@@ -27,7 +27,7 @@ use Rattle.replay.specs.Turns.{AreLinesOfOrder}
 use Rattle.serving.specs.Shows.{order_shown}
 use Rattle.states.specs.Shown.{IsOrderAmong, NoneIsSpent, told_in}
 
--- a thread that waits in an order runs in a replay
+-- a thread that is blocked in an order is running in a replay
 abbrev pub waiting : End → End
 waiting end.Running = end.Waits
 waiting e = e
@@ -35,7 +35,7 @@ waiting e = e
 abbrev pub as_waiting : ThreadShown → ThreadShown
 as_waiting t = record t { end = waiting t.end }
 
--- a replay that made these steps shows what the order does, and leaves the lock free; none of its steps drops an attempt
+-- a replay that made these steps shows what the order does, and leaves the lock free; none of its steps is an abort
 pub record ShowsOrder (p : Program) (code : Code) (threads ticks : ℕ) (order made : List ℕ) (shown : Printed) :
     Type 0 where
   pub free : shown.holder ≡ None
@@ -45,7 +45,7 @@ pub record ShowsOrder (p : Program) (code : Code) (threads ticks : ℕ) (order m
       ≡ (order_shown p (in_order (thread p) (initial_memory p) threads ticks order)).globals
   pub undropped : (t : ℕ) → drops (effect code) t made (new_world (beginning code) (initial_of code) threads) ≡ 0
 
--- an order in which the source spends no thread, of threads of a code that means the program
+-- an order in which no thread of the source runs out of fuel, for threads of a code that means the program
 pub record CanBeReplayed (p : Program) (code : Code) (threads ticks : ℕ) (order : List ℕ) : Type 0 where
   pub compiled : IsCodeOf p code
   pub fits : FitsCells (effect code) (bounds_of code)
@@ -54,8 +54,8 @@ pub record CanBeReplayed (p : Program) (code : Code) (threads ticks : ℕ) (orde
   pub unspent : NoneIsSpent (told_in p threads ticks order)
   pub short : length order < 2 ^ 63 - 1
 
--- A replay of an order's lines, whatever makes them, shows the order, if all their steps were made: with any number of
--- ticks that spends no thread. The lines are there, and if their steps are few enough they can be replayed.
+-- A replay of an order's lines, however they are generated, shows the order, if all their steps were made: with any
+-- number of ticks with which no thread runs out. Such lines exist, and can be replayed if their steps are few enough.
 pub record OrderIsReplayed (p : Program) (code : Code) (threads ticks : ℕ) (order : List ℕ) : Type 0 where
   pub lines : List Line
   pub are : AreLinesOfOrder code threads order lines
@@ -70,8 +70,8 @@ OrdersAreReplays =
     (p : Program) (code : Code) (threads ticks : ℕ) (order : List ℕ) → CanBeReplayed p code threads ticks order →
     OrderIsReplayed p code threads ticks order
 
--- Each outcome is what the machine can do: some list of steps, none of which stops, leaves a world whose
--- report is that of the outcome, word for word.
+-- The machine can reach each outcome: some list of steps, none of which stops, leads to a world whose report is that of
+-- the outcome, word for word.
 abbrev pub OutcomesAreDone : Type 0
 OutcomesAreDone =
     (p : Program) (code : Code) (threads : ℕ) (o : ReportedOrder) → IsCodeOf p code →

@@ -10,9 +10,9 @@ use Rattle.refinements.specs.Told.{beyond_text, refined_text}
 use Rattle.serving.specs.Checks.{IsSourceOf}
 use Rattle.serving.specs.Outcomes.{AreOutcomesOf, IsOutcomeOf}
 
--- Each outcome of the first program is one of the second's: where some order of the first leaves all threads over, some
--- order of the second does, and its threads ended alike and printed the same, and each global of the first, by name and
--- type, has the same words there.
+-- Each outcome of the first program is one of the second's: if all threads terminate in some order of the first, they
+-- do in some order of the second, with the same ends and output, and each global of the first, by name and type, has
+-- the same words there.
 abbrev pub Refines : (this that : Program) → (count : ℕ) → Type 0
 Refines this that count = (o : ReportedOrder) → IsOutcomeOf this count o →
     (u : ReportedOrder) × IsOutcomeOf that count u × IsShownBy o.shown u.shown
@@ -22,8 +22,8 @@ pub record IsBeyond (this that : Program) (count : ℕ) (o : ReportedOrder) : Ty
   pub outcome : IsOutcomeOf this count o
   pub none : (u : ReportedOrder) → IsOutcomeOf that count u → IsShownBy o.shown u.shown → ⊥
 
--- It is said that each outcome of the first program is one of the second's, and how many each has. No order of the first
--- is stuck.
+-- The output reports that each outcome of the first program is one of the second's, and how many each has. No order of
+-- the first is stuck.
 pub record SaysRefines (name : List ℕ) (count : ℕ) (this that : Program) (written : List ℕ) : Type 0 where
   pub refines : Refines this that count
   pub outcomes : List ReportedOrder
@@ -31,15 +31,15 @@ pub record SaysRefines (name : List ℕ) (count : ℕ) (this that : Program) (wr
   pub others : List ReportedOrder
   pub stuck : List ReportedOrder
   pub others_are : AreOutcomesOf that count Whole others stuck
-  pub said : written ≡ refined_text name (length outcomes) (length others)
+  pub said : written ≡ refined_text name (length outcomes) (length others) count
 
--- an outcome of the first program is shown that is none of the second's, with its order
+-- the output shows an outcome of the first program that is none of the second's, with its order
 pub record ShowsBeyond (name : List ℕ) (count : ℕ) (this that : Program) (written : List ℕ) : Type 0 where
   pub one : ReportedOrder
   pub beyond : IsBeyond this that count one
   pub shown : written ≡ beyond_text name one
 
--- two texts spell accepted programs, of which this is so
+-- two texts spell accepted programs for which this holds
 pub record AreSourcesOf (text other : List ℕ) (IsSo : Program → Program → Type 0) : Type 0 where
   pub this : ParsedSource
   pub spelled : IsSourceOf text this

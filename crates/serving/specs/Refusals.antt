@@ -22,31 +22,31 @@ use Rattle.serving.specs.declared.source.OrderFault.{OrderFault}
 use Rattle.serving.specs.declared.source.OrderFault.TheVariants.{Source as OfSource, Order as OfOrder}
 use Rattle.serving.specs.Checks.{Accepts, IsSourceOf}
 
--- the tokens of a text are wrong in this way
+-- the tokens of a text have this fault
 pub record IsMisspelled (text : List ℕ) (says : List Tok → Type 0) : Type 0 where
   pub tokens : List Tok
   pub lexed : IsLexed text tokens
   pub fault : says tokens
 
--- the first demand that the program of a text does not meet is of this rule and at this place
+-- the first demand that the program of a text violates is of this rule and at this position
 pub record IsMistyped (text : List ℕ) (v : Violation) : Type 0 where
   pub source : ParsedSource
   pub spelled : IsSourceOf text source
   pub first : Some (told_of v) ≡ first_unmet (Meets source.ends source.program)
 
--- the program that a text spells breaks a rule of safety first here
+-- the program that a text spells first breaks a rule of safety here
 pub record IsUnsafe (text : List ℕ) (v : Violation) : Type 0 where
   pub source : ParsedSource
   pub spelled : IsSourceOf text source
   pub first : IsSafetyFault (number_of v.rule) v.at source.program
 
--- the program that a text spells breaks a rule of separation first here
+-- the program that a text spells first breaks a rule of separation here
 pub record IsNotSeparate (text : List ℕ) (v : Violation) : Type 0 where
   pub source : ParsedSource
   pub spelled : IsSourceOf text source
   pub first : IsSeparationFault (number_of v.rule) v.at source.program
 
--- what a fault says of a text, where no code is made: it is never one of code, and want of memory says nothing
+-- the meaning of a fault for a text, if no code is generated: never one of code; an allocation failure implies nothing
 abbrev pub IsFaultOfSource : List ℕ → SourceFault → Type 0
 IsFaultOfSource text OutOfMemory = Unit {0}
 IsFaultOfSource text (Lex fault) = IsFault text fault
@@ -54,7 +54,7 @@ IsFaultOfSource text (Parse fault) = IsMisspelled text (λ tokens. IsParseFault 
 IsFaultOfSource text (Broken v) = IsMistyped text v ⊎ IsUnsafe text v ⊎ IsNotSeparate text v
 IsFaultOfSource text (NoCode fault) = ⊥
 
--- what a fault says of a text and of an order: the order is looked at last
+-- the meaning of a fault for a text and for an order: the order is checked last
 abbrev pub IsFaultInOrder : (text : List ℕ) (threads : ℕ) (order : List ℕ) → OrderFault → Type 0
 IsFaultInOrder text threads order (OfSource fault) = IsFaultOfSource text fault
 IsFaultInOrder text threads order (OfOrder fault) = Accepts text × IsFaultOfOrder threads order fault
@@ -77,10 +77,10 @@ span_of_source (Parse fault) = parse.span_of fault
 span_of_source (Broken v) = Some v.at
 span_of_source (NoCode fault) = lower.span_of fault
 
--- a text has a fault of this kind that stands somewhere in it
+-- a text has a fault of this kind at some position in it
 abbrev pub IsFaulty : (List ℕ → SourceFault → Type 0) → List ℕ → Type 0
 IsFaulty IsFaultOf text = (fault : SourceFault) × IsFaultOf text fault × (is_some (span_of_source fault) ≡ true)
 
--- a rule of the language is broken at a place
+-- the program breaks a rule of the language at a position
 abbrev pub IsRefused : List ℕ → Type 0
 IsRefused text = IsFaulty IsFaultOfSource text

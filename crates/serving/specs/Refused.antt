@@ -1,4 +1,4 @@
--- What the exit status 1 says of a source, by what is asked.
+-- The meaning of the exit status 1 for a source, by request.
 use Rattle.std.specs.Prelude.{ℕ, List, Option, IfSome}
 use Rattle.command.specs.declared.request.Request.{Request}
 use Rattle.command.specs.declared.request.Request.TheVariants.{Program, Certify, Compare, Ask, Explain, ExplainEnd}
@@ -9,7 +9,7 @@ use Rattle.serving.specs.Compared.{HaveNoCode}
 use Rattle.serving.specs.Limits.{HasNoCode}
 use Rattle.serving.specs.Refusals.{IsRefused}
 
--- why a task with a text is refused: a limit of code is no reason for one that makes no code
+-- why a task with a text is refused: a limit of code is no reason if the task generates no code
 abbrev pub IsRefusedFor : Task → (text : List ℕ) → Type 0
 IsRefusedFor (Check told) text = IsRefused text
 IsRefusedFor Listing text = HasNoCode text
@@ -22,7 +22,7 @@ IsRefusedFor (PrintOrder threads order) text = HasNoCode text
 IsRefusedFor (Source threads order ticks) text = IsRefused text
 IsRefusedFor (Outcomes threads steps limit memory) text = HasNoCode text
 
--- why a request is refused, where these bytes are those of the file, and those of what its outcomes are compared with
+-- why a request is refused, if these are the bytes of the file and of what its outcomes are compared with
 abbrev pub IsRequestRefused : Request → (other bytes : Option (List ℕ)) → Type 0
 IsRequestRefused (Program file verbose format task) other bytes = IfSome bytes (λ text. IsRefusedFor task text)
 IsRequestRefused (Certify file verbose format claim) other bytes = IfSome bytes (λ text. IsRefused text)

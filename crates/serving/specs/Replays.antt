@@ -37,7 +37,7 @@ use Rattle.serving.specs.Codes.{Compiles}
 use Rattle.serving.specs.Reports.{exit_status}
 use Rattle.serving.specs.Shows.{shown_globals}
 
--- the lines of a schedule, where its bytes are known
+-- the lines of a schedule, if its bytes are known
 abbrev pub IsSchedule : Option (List ℕ) → List Line → Type 0
 IsSchedule schedule found = IfSome schedule (λ text. AreLines (lines text) found)
 
@@ -45,7 +45,7 @@ IsSchedule schedule found = IfSome schedule (λ text. AreLines (lines text) foun
 abbrev pub lines_of_seed : (seed threads count : ℕ) → List Line
 lines_of_seed seed threads count = map (λ w. one_step (w % threads)) (first_words pcg32 count (generator_of seed))
 
--- these lines make the turns of an order of so many threads, and no more steps than a replay makes
+-- these lines make the turns of an order of so many threads, in no more steps than a replay may make
 pub record AreTurnsOf (code : Code) (threads : ℕ) (order : List ℕ) (found : List Line) : Type 0 where
   pub among : IsOrderAmong threads order
   pub few : counts found ≤ MOST_STEPS
@@ -57,7 +57,7 @@ AreLinesOf (Schedule file) code threads schedule found = IsSchedule schedule fou
 AreLinesOf (Seed seed count) code threads schedule found = found ≡ lines_of_seed seed threads count
 AreLinesOf (Order order) code threads schedule found = AreTurnsOf code threads order.items found
 
--- how a thread is found after a replay
+-- the status of a thread after a replay
 abbrev pub end_after_replay : WorldEnd → End
 end_after_replay world.Ended = end.Ended
 end_after_replay (world.Trapped k) = end.Trapped k
@@ -65,12 +65,11 @@ end_after_replay world.OutOfMemory = end.OutOfMemory
 end_after_replay world.SequenceUsedUp = end.SequenceUsedUp
 end_after_replay world.Running = end.Running
 
--- a thread of a world: how it is found, and what it has printed
+-- a thread of a world: its status, and what it has printed
 abbrev pub thread_found : WorldEnd × List ℕ → ThreadShown
 thread_found found = record { end = end_after_replay found.0; text = found.1 }
 
--- a replay: what happened in its steps, how each thread is found and what it has printed, the words, and who has the
--- lock
+-- a replay: the events of its steps, the status and output of each thread, the words, and the holder of the lock
 abbrev pub replay_shown : Program → List (ℕ × ℕ × Event) → List (WorldEnd × List ℕ) → Memory → (holder : Option ℕ) →
     Printed
 replay_shown p events found words holder = record {
@@ -80,17 +79,16 @@ replay_shown p events found words holder = record {
   holder = holder;
 }
 
--- the world that steps have led to, where the next step of a thread may have been refused
+-- the world that steps have led to, if the next step of a thread may have been refused
 abbrev pub world_shown : Program → Option (ℕ × StopReason) → (holder : Option ℕ) → Simulation → Printed
 world_shown p stop holder s = replay_shown p (events_of s) (threads_shown stop s) (world_of s).words holder
 
--- what a report of a replay shows behind what happened
+-- what a report of a replay shows after the events
 abbrev pub behind_events : Printed → Printed
 behind_events shown = record shown { events = None }
 
--- What a report shows of a replay: of the steps that the lines name, at most 1,048,576, these were made, up to the
--- first that could not be; these are explained by runs of the program; and the report shows the world that they lead
--- to.
+-- The content of a report of a replay: of the steps that the lines name, at most 1,048,576, these were made, up to the
+-- first that could not be; runs of the program explain these; and the report shows the world that they lead to.
 pub record IsReplayOf (p : Program) (code : Code) (threads : ℕ) (found : List Line) (made : List ℕ)
     (stopped : Option WorldStop) (shown : Printed) : Type 0 where
   pub rest : List ℕ
@@ -102,15 +100,14 @@ pub record IsReplayOf (p : Program) (code : Code) (threads : ℕ) (found : List 
   pub shows : shown ≡ world_shown p stop shown.holder (simulation_after code threads made)
   pub stopped_is : stopped ≡ stop_with stop (simulation_after code threads made)
 
--- the status 0 tells of a text that spells an accepted program with code, and that a schedule of these lines was
--- written
+-- the status 0 reports that a text spells an accepted program with code, and that a schedule of these lines was written
 abbrev pub PrintsSchedule : List Line → (text : List ℕ) → (status : ℕ) → (old new : Option (List ℕ)) → Type 0
 PrintsSchedule found text status old new =
     status ≡ 0 → (written : List ℕ) × (code : Code) × Compiles text code × AreLines (lines written) found
     × Appends old new written
 
--- the status 0 tells of a text that spells an accepted program with code, and that a schedule was written of an order of
--- its threads
+-- the status 0 reports that a text spells an accepted program with code, and that a schedule of an order of its threads
+-- was written
 abbrev pub PrintsOrder : (threads : ℕ) → (order : List ℕ) → (text : List ℕ) → (status : ℕ) →
     (old new : Option (List ℕ)) → Type 0
 PrintsOrder threads order text status old new =
@@ -140,7 +137,7 @@ pub record ReplaysShown (threads : ℕ) (steps : Steps) (schedule : Option (List
   pub replay : IsReplayOfText threads steps schedule text code made None shown
   pub lines_are : lines ≡ timeline_text code (timeline_of (simulation_after code threads made))
 
--- the lines and the report of something that is so
+-- the lines and the report of a replay for which this holds
 abbrev pub PrintsTimeline : (List ℕ → Printed → Type 0) → ℕ → Option (List ℕ) → Option (List ℕ) → Type 0
 PrintsTimeline AreSo status old new = (status ≡ 0) ⊎ (status ≡ 3) →
     (lines : List ℕ) × (shown : Printed) × AreSo lines shown × (status ≡ exit_status shown)

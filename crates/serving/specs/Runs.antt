@@ -27,7 +27,7 @@ use Rattle.report.specs.declared.printed.End.TheVariants as end
 use Rattle.serving.specs.Codes.{Compiles}
 use Rattle.serving.specs.Shows.{shown_globals}
 
--- how a thread is found after a run of all threads at once: by its status, and by what stopped it
+-- the status of a thread after a run of all threads at once: by its state, and by what stopped it
 abbrev pub end_of_run : Status → Option Stop → End
 end_of_run HasEnded stopped = end.Ended
 end_of_run (HasTrapped k) stopped = end.Trapped k
@@ -40,7 +40,7 @@ abbrev pub stopped_of : List Ending → ℕ → Option Stop
 stopped_of ends t = option_and_then (λ e. e.stopped) (find (λ e. e.number == t) ends)
 
 module _ {G : Type 0} where
-  -- a thread after a run of all threads at once, where there is one
+  -- a thread after a run of all threads at once, if there is one
   abbrev pub finished_shown : Option Stop → Option (Finished G) → ThreadShown
   finished_shown stopped (Some f) =
       record { end = end_of_run (finished_thread f).status stopped; text = (finished_thread f).text }
@@ -54,7 +54,7 @@ module _ {G : Type 0} where
   threads_of_run r zero = []
   threads_of_run r (suc n) = threads_of_run r n ++ thread_of_run r n ∷ []
 
--- the globals, where no thread has the lock
+-- the globals, if no thread has the lock
 abbrev pub globals_left : Program → RunMemory → List Shown
 globals_left p (Words v) = shown_globals (globals p) v.items
 globals_left p (LockHeld t) = []
@@ -72,9 +72,9 @@ run_shown p threads r = record {
   holder = held_by r.memory;
 }
 
--- What a report shows of the thread of this number: its text and its end in the world that the run led to. So many
--- steps of its own, no more than its budget, have led it there. What stopped its loop is why no further step was made;
--- where nothing did, it is over, or all steps of its budget are made.
+-- A report shows of the thread of this number its text and its end in the world that the run led to. So many steps of
+-- its own, no more than its budget, have led it there. It made no further step because of what stopped its loop; if
+-- nothing did, it has terminated, or all steps of its budget are made.
 pub record IsConcurrentThread (code : Code) (w : World Configuration) (budget n : ℕ)
     (shown : ThreadShown) : Type 0 where
   pub part : Part Configuration
@@ -87,7 +87,7 @@ pub record IsConcurrentThread (code : Code) (w : World Configuration) (budget n 
   pub shows : shown ≡ record { end = end_of_run part.thread.status stopped; text = part.thread.text }
 
 -- what a report shows of so many threads of this code at once, each with so many steps at most: their run is one of the
--- program, and each thread stands in it as it is shown
+-- program, and each thread is shown as it is in that run
 pub record IsConcurrentRun (p : Program) (code : Code) (threads budget : ℕ) (shown : Printed) : Type 0 where
   pub report : RunReport Global
   pub ran : Ran (thread p) (record { code = code; threads = threads }) budget report

@@ -1,4 +1,4 @@
--- What the report of threads in an order shows.
+-- The content of the report of threads in an order.
 use Rattle.std.specs.Prelude.{ℕ, List, [], ◌∷◌, map, take, drop, None}
 use Rattle.syntax.specs.Tree.{Global, Program}
 use Rattle.syntax.specs.Names.{cells, globals}
@@ -9,7 +9,7 @@ use Rattle.report.specs.Printed.{Shown, ThreadShown, Printed}
 use Rattle.report.specs.declared.printed.End.{End}
 use Rattle.report.specs.declared.printed.End.TheVariants as end
 
--- how a thread is found after its turns in an order
+-- the status of a thread after its turns in an order
 abbrev pub order_end : ThreadEnd → End
 order_end Ended = end.Ended
 order_end (Stopped (Trapped k)) = end.Trapped k
@@ -20,7 +20,7 @@ order_end (Stopped why) = end.Spent
 abbrev pub shown_global : Global → List ℕ → Shown
 shown_global g ws = record { name = g.name.text; ty = g.ty; words = ws }
 
--- globals in order of declaration, whose cells stand in a memory one after another
+-- globals in order of declaration, whose cells are in a memory one after another
 abbrev pub shown_globals : List Global → Memory → List Shown
 shown_globals [] ws = []
 shown_globals (g ∷ gs) ws = shown_global g (take (cells g) ws) ∷ shown_globals gs (drop (cells g) ws)

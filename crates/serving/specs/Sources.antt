@@ -1,10 +1,10 @@
--- What a file holds, as a source.
+-- The content of a file, as a source.
 use Rattle.std.specs.Prelude.{◌≡◌, ◌<◌, ℕ, List, length, string_bytes, IsUtf8}
 use Rattle.lex.specs.declared.lexer.TheConstants.{MOST_BYTES}
 use Rattle.serving.specs.declared.files.SourceText.{SourceText}
 use Rattle.serving.specs.declared.files.SourceText.TheVariants.{NotText, Text, TooLong}
 
--- a text is these bytes; what is no text is not UTF-8; and what is too long has more bytes than a source may have
+-- a text has these bytes; a file that is no text is not UTF-8; one that is too long has more bytes than a source may
 abbrev pub IsTextOf : {A : Type 0} → List ℕ → SourceText A → Type 0
 IsTextOf bytes (Text text) = string_bytes text ≡ bytes
 IsTextOf bytes NotText = IsUtf8 bytes → ⊥

@@ -1,8 +1,8 @@
--- What is told of words that are no request.
+-- The response to words that are no request.
 use Rattle.command.specs.declared.request.UsageFault.{UsageFault}
 use Rattle.command.specs.declared.request.UsageFault.TheVariants.{Help, Wrong}
 
--- help is told
+-- help is printed
 abbrev pub IsHelp : UsageFault → Type 0
 IsHelp (Help text) = Unit {0}
 IsHelp _ = ⊥

@@ -1,4 +1,4 @@
--- What is answered to the words of a command line, over files.
+-- The response to the words of a command line, over files.
 use Rattle.std.specs.Prelude.{◌≡◌, ◌⊎◌, ℕ, List, Option}
 use Rattle.command.specs.Asked.{AskHelp, AskNothing, Requests}
 use Rattle.command.specs.declared.request.Request.{Request}
@@ -13,8 +13,8 @@ pub record AreServed (words : List (List ℕ)) (contents : Contents) (status : �
   pub refused : status ≡ 1 → RefusesSource request contents
   pub untouched : status ≡ 1 → new ≡ old
 
--- Words make a request, and it is answered; or they ask for help, of whose text nothing is said; or they make no
--- request, and nothing is printed; or nothing is, with the status of refused memory.
+-- Words make a request, and it is answered; or they request help, about whose text nothing is stated; or they make no
+-- request, and nothing is printed; or nothing is printed, with the status of an allocation failure.
 abbrev pub AnswersWords : List (List ℕ) → Contents → (status : ℕ) → (old new : Option (List ℕ)) → Type 0
 AnswersWords words contents status old new = AreServed words contents status old new
     ⊎ AskHelp words × ((status ≡ 0) ⊎ (status ≡ 4))

@@ -1,4 +1,4 @@
--- What is written for a request, whatever the exit status: nothing, or what is asked for, or a beginning of that.
+-- The output for a request, for any exit status: nothing, all that is requested, or a prefix of it.
 use Rattle.std.specs.Prelude.{◌≡◌, ◌⊎◌, ◌++◌, ℕ, List, Option, codes, take}
 use Rattle.std.specs.Io.KnownBytes.{Appends}
 use Rattle.std.specs.Str.Lines.{lines}
@@ -23,7 +23,7 @@ use Rattle.serving.specs.Orders.{RunsInOrder}
 use Rattle.serving.specs.Replays.{AreTurnsOf, IsReplayOfText, lines_of_seed}
 use Rattle.serving.specs.Runs.{RunsConcurrently}
 
--- the report of something that is so
+-- a report for which this holds
 abbrev pub IsReportOf : (Printed → Type 0) → List ℕ → Type 0
 IsReportOf IsSo written = (shown : Printed) × IsSo shown × (written ≡ report_text shown)
 
@@ -40,7 +40,7 @@ abbrev pub IsReplayReport : ℕ → Steps → Option (List ℕ) → (text : List
 IsReplayReport threads steps schedule text written =
     (r : ReplayedTo threads steps schedule text) × (written ≡ report_text r.shown)
 
--- the timeline of a replay: what is shown of each of its steps, and then the report
+-- the timeline of a replay: a line for each of its steps, and then the report
 abbrev pub IsReplayTimeline : ℕ → Steps → Option (List ℕ) → (text : List ℕ) → (written : List ℕ) → Type 0
 IsReplayTimeline threads steps schedule text written = (r : ReplayedTo threads steps schedule text)
     × (written ≡ timeline_text r.code (timeline_of (simulation_after r.code threads r.made)) ++ report_text r.shown)
@@ -62,7 +62,7 @@ IsOrderSchedule threads order text written =
     (code : Code) × (found : List Line) × Compiles text code × AreTurnsOf code threads order found
     × AreLines (lines written) found
 
--- what a task asks to be written
+-- the output that a task requests
 abbrev pub IsAskedFor : Task → (schedule : Option (List ℕ)) → (text : List ℕ) → (written : List ℕ) → Type 0
 IsAskedFor (Check told) schedule text written = Accepts text × (written ≡ codes "accepted\n")
 IsAskedFor Listing schedule text written = ShowsListing text written
@@ -77,10 +77,10 @@ IsAskedFor (Source threads order ticks) schedule text written =
     IsReportOf (λ shown. RunsInOrder threads ticks order.items text shown × Accepts text) written
 IsAskedFor (Outcomes threads steps limit memory) schedule text written = IsListOfOutcomes threads text written
 
--- a text is written, or a beginning of it
+-- a text is written, or a prefix of it
 abbrev pub AppendsBeginning : Option (List ℕ) → Option (List ℕ) → List ℕ → Type 0
 AppendsBeginning old new text = (count : ℕ) × Appends old new (take count text)
 
--- nothing is written, or a text of which this is so, or a beginning of one
+-- nothing is written, or a text for which this holds, or a prefix of one
 abbrev pub WritesPart : (List ℕ → Type 0) → Option (List ℕ) → Option (List ℕ) → Type 0
 WritesPart IsSo old new = (new ≡ old) ⊎ ((text : List ℕ) × IsSo text × AppendsBeginning old new text)

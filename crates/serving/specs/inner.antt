@@ -1,22 +1,22 @@
--- what is shown of a reported thread
+-- the lines of a reported thread
 pub mod ThreadReports
--- what is shown of a replay's report
+-- the content of a replay's report
 pub mod Replayed
 -- the words beyond those of globals
 pub mod Words
--- what an exit status says, and what is written
+-- the meaning of an exit status, and what is written
 pub mod Serves
--- what a status says of a report that was printed
+-- the meaning of a status for a report that was printed
 pub mod Printing
--- what running a text's threads leaves, and what a fault of it says
+-- the results of running a text's threads, and the meaning of a fault of it
 pub mod Threads
--- reports by runs of the source
+-- reports justified by runs of the source
 pub mod Serial
--- what the states of a walk show
+-- the reports of the states of a walk
 pub mod Walked
--- what two lists of outcomes say of one another
+-- the comparison of two lists of outcomes
 pub mod Compared
--- what functions say of themselves that are asked
+-- the facts about functions that are requested as properties
 pub mod Askable
--- what the states of a walk say of properties
+-- the values of properties in the states of a walk
 pub mod Properties

@@ -38,7 +38,7 @@ pub(crate) fn all_outcomes<A: Allocator + Copy, W: Write, E: Write>(
 {
     match list_outcomes(alloc, text, threads, steps, limit, memory, teller) {
         Ok(found) => {
-            let status = print_outcomes(alloc, &found, out, teller.err);
+            let status = print_outcomes(alloc, &found, threads, out, teller.err);
             tell_listed_ends(alloc, text, threads, &found, teller);
             status
         }
@@ -51,19 +51,21 @@ pub(crate) fn all_outcomes<A: Allocator + Copy, W: Write, E: Write>(
 fn print_outcomes<A: Allocator + Copy, W: Write, E: Write>(
     alloc: A,
     found: &OutcomesFound<A>,
+    threads: u32,
     out: &mut W,
     err: &mut E,
 ) -> u8
     ensures { Serves 4
         (λ s o n. s ≢ 4 → (found.now.end ≡ Whole) × (map reported_of found.now.stuck.items ≡ [])
-        × (s ≡ outcomes_status (map reported_of found.now.outcomes.items)) × Appends o n (list_of found.now)) ⊥
-        (WritesPart (λ written. written ≡ list_of found.now)) result (W.contents out.old) (W.contents out.new) }
+        × (s ≡ outcomes_status (map reported_of found.now.outcomes.items)) × Appends o n (list_of found.now threads)) ⊥
+        (WritesPart (λ written. written ≡ list_of found.now threads)) result (W.contents out.old) (W.contents out.new) }
 {
     match list_text(
         alloc,
         found.outcomes.as_slice(),
         found.stuck.as_slice(),
         found.states,
+        threads,
         found.end,
     ) {
         Ok(text) => match print(text.as_slice(), out) {

@@ -113,8 +113,9 @@ fn ask_program<A: Allocator + Copy, W: Write, E: Write>(
     teller: &mut Teller<'_, E>,
 ) -> u8
     requires code { IsCodeOf (program_of compiled.now.accepted.safe.typed.unit) compiled.now.code }
-    ensures prints { PrintsProperties (AreAnswered (program_of compiled.now.accepted.safe.typed.unit)
-        questions.now.threads questions.now.steps (asked_by questions.now)) result (W.contents out.old)
+    ensures prints { PrintsProperties questions.now.threads (AreAnswered
+        (program_of compiled.now.accepted.safe.typed.unit) questions.now.threads questions.now.steps
+        (asked_by questions.now)) result (W.contents out.old)
         (W.contents out.new) }
     ensures unaskable { result ≡ 2 → HasUnaskable (program_of compiled.now.accepted.safe.typed.unit)
         (asked_by questions.now) }
@@ -161,8 +162,8 @@ fn ask_names<A: Allocator + Copy, W: Write, E: Write>(
     teller: &mut Teller<'_, E>,
 ) -> u8
     requires code { IsCodeOf (program_of compiled.now.accepted.safe.typed.unit) compiled.now.code }
-    ensures prints { PrintsProperties (AreAnswered (program_of compiled.now.accepted.safe.typed.unit)
-        questions.now.threads questions.now.steps
+    ensures prints { PrintsProperties questions.now.threads (AreAnswered
+        (program_of compiled.now.accepted.safe.typed.unit) questions.now.threads questions.now.steps
         (asked_each false (map (λ n. n.now) always.now) ++ asked_each true (map (λ n. n.now) last.now))) result
         (W.contents out.old) (W.contents out.new) }
     ensures unaskable { result ≡ 2 → HasUnaskable (program_of compiled.now.accepted.safe.typed.unit)
@@ -184,7 +185,7 @@ fn ask_names<A: Allocator + Copy, W: Write, E: Write>(
         teller,
     ) {
         Ok(found) => {
-            let status = print_found(alloc, &found, out, teller.err);
+            let status = print_found(alloc, &found, questions.threads, out, teller.err);
             let accepted = &compiled.accepted;
             tell_asked_ends(alloc, text, accepted, questions.threads, &found, teller);
             status
@@ -230,10 +231,11 @@ fn tell_unaskable<E: Write>(option: &str, name: &str, why: Unaskable, err: &mut 
 fn print_found<A: Allocator + Copy, W: Write, E: Write>(
     alloc: A,
     found: &PropertiesFound<A>,
+    threads: u32,
     out: &mut W,
     err: &mut E,
 ) -> u8
-    ensures prints { PrintsProperties (AreThese found.now.end (map property_of found.now.properties.items)
+    ensures prints { PrintsProperties threads (AreThese found.now.end (map property_of found.now.properties.items)
         (map reported_of found.now.stuck.items)) result (W.contents out.old) (W.contents out.new) }
     ensures not_unusable { result ≢ 2 }
 {
@@ -241,6 +243,7 @@ fn print_found<A: Allocator + Copy, W: Write, E: Write>(
         alloc,
         found.properties.as_slice(),
         found.stuck.as_slice(),
+        threads,
         found.end,
     ) {
         Ok(text) => match print(text.as_slice(), out) {

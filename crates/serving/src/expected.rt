@@ -42,7 +42,7 @@ pub(crate) fn expect<A: Allocator + Copy, Q: Read + Drop, W: Write, E: Write>(
         bytes_of_memory(limits.memory),
         teller,
     ) {
-        Ok(found) => expect_outcomes(alloc, &found, file, expected, out, teller),
+        Ok(found) => expect_outcomes(alloc, &found, limits.threads, file, expected, out, teller),
         Err(OrderFault::Source(fault)) => teller.refuse(alloc, text, fault),
         Err(OrderFault::Order(fault)) => teller.refuse_order(fault),
     }
@@ -52,19 +52,21 @@ pub(crate) fn expect<A: Allocator + Copy, Q: Read + Drop, W: Write, E: Write>(
 fn expect_outcomes<A: Allocator + Copy, Q: Read + Drop, W: Write, E: Write>(
     alloc: A,
     found: &OutcomesFound<A>,
+    threads: u32,
     file: &str,
     expected: Q,
     out: &mut W,
     teller: &mut Teller<'_, E>,
 ) -> u8
-    ensures { ServesExpected (λ t. (found.now.end ≡ Whole) × (t ≡ list_of found.now)) ⊥ (Q.remaining expected) result
-        (W.contents out.old) (W.contents out.new) }
+    ensures { ServesExpected (λ t. (found.now.end ≡ Whole) × (t ≡ list_of found.now threads)) ⊥ (Q.remaining expected)
+        result (W.contents out.old) (W.contents out.new) }
 {
     match list_text(
         alloc,
         found.outcomes.as_slice(),
         found.stuck.as_slice(),
         found.states,
+        threads,
         found.end,
     ) {
         Ok(list) => expect_list(alloc, found, list.as_slice(), file, expected, out, teller),

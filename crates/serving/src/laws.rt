@@ -1,4 +1,4 @@
-//! Laws of programs, their code and reports. A law has no code: its contract is what it says.
+//! Theorems about programs, their code and reports. A theorem has no code: its contract is what it states.
 
 ghost use Rattle.std.specs.Prelude.{◌≤◌, ◌^◌, ℕ, List};
 ghost use Rattle.syntax.specs.Names.{bounds, initial_memory};
@@ -37,11 +37,11 @@ pub fn accepted_programs_are_opaque()
     threads_leave_memories();
 }
 
-/// What was printed is what an order prints. Where each thread has ended or trapped, a run of all threads at once shows
-/// just what the source's threads show in some order of whole transactions, with some number of ticks, and so does a
-/// replay behind its events. Where threads of either still run, but none has the lock, the globals are those that
-/// some order leaves, each thread that has ended or trapped shows what it shows there, and one that still runs has
-/// printed what the source's thread prints in that order with some number of ticks of its own.
+/// Every run prints what an order prints. If each thread has ended or trapped, a run of all threads at once shows just
+/// what the source's threads show in some order of whole transactions, with some number of ticks, and so does a replay
+/// after its events. If threads of either still run, but none has the lock, the globals are those that some order
+/// leaves, each thread that has ended or trapped shows what it shows there, and one that still runs has printed what
+/// the source's thread prints in that order with some number of ticks of its own.
 pub fn reports_are_orders()
     ensures runs { ConcurrentRunsAreOrders }
     ensures replays { ReplaysAreOrders }
@@ -53,9 +53,9 @@ pub fn reports_are_orders()
     threads_leave_memories();
 }
 
-/// A list of all outcomes has every report. Where all outcomes of a source were listed, whatever its threads show in
-/// some order, with whatever number of ticks, is in the list, if each of them has ended or trapped. And so is what a run
-/// of all threads at once shows: `reports_are_orders` says that it is what an order shows.
+/// A list of all outcomes has every report. If all outcomes of a source were listed, whatever its threads show in some
+/// order, with any number of ticks, is in the list, if each of them has ended or trapped. The list also has what a run
+/// of all threads at once shows: `reports_are_orders` states that this is what an order shows.
 pub fn orders_are_listed()
     ensures { OrdersAreListed }
 {
@@ -63,24 +63,24 @@ pub fn orders_are_listed()
     one_tree();
 }
 
-/// What orders show, the machine can come to.
+/// The machine can reach whatever orders show.
 ///
-/// Each order of the source in which no thread is spent has lines of a schedule: each thread, alone, comes to where it
-/// rests, and then has its turns of the order. Where all steps of such lines are made, the replay's report shows the
-/// order's globals, texts and ends, with `running` for a thread that waits, the lock is free, and no attempt was
-/// dropped; and where there are few enough for a schedule they can be made.
+/// Each order of the source in which no thread runs out of fuel has lines of a schedule: each thread, alone, runs to
+/// its quiescent state, and then has its turns of the order. If all steps of such lines are made, the replay's report
+/// shows the order's globals, texts and ends, with `running` for a blocked thread, the lock is free, and no attempt was
+/// aborted; and if there are few enough for a schedule, they can be made.
 ///
-/// Each outcome that is listed is word for word the report of a world that steps which do not stop lead to. With
+/// Each listed outcome is word for word the report of a world that steps which do not stop lead to. With
 /// `reports_are_orders` and `orders_are_listed` such a list is exact.
 pub fn orders_are_replays()
     ensures replays { OrdersAreReplays }
     ensures outcomes { OutcomesAreDone }
 {}
 
-/// Every run keeps what `--always` confirms. A function that holds of the memory that each order leaves holds of shared
-/// memory whenever the lock is free: in every world that steps of the machine lead to, and so, by the rule of
-/// `shared_words`, between any two atomic steps of real threads. A thread that has the lock may have stored a part of what
-/// its transaction leaves, so nothing is said of that time.
+/// Every run keeps the invariants that `--always` confirms. A function that holds of the memory that each order leaves
+/// holds of shared memory whenever the lock is free: in every world that steps of the machine lead to, and so, by the
+/// rule of `shared_words`, between any two atomic steps of real threads. While a thread has the lock, it may have
+/// stored a part of what its transaction leaves, so nothing is stated about that time.
 pub fn properties_hold_in_every_world()
     ensures worlds { PropertiesHoldInWorlds }
     ensures threads { PropertiesHoldOfSharedWords }
@@ -89,9 +89,9 @@ pub fn properties_hold_in_every_world()
     threads_leave_memories();
 }
 
-/// Every report keeps what `--final` confirms. A function that holds of the memory that each order leaves in which all
-/// threads have terminated holds of the last memory of each report in which each thread has ended or trapped. `txc run` prints
-/// such reports with exit status 0 or 3 (`reports_are_orders`).
+/// Every report has the properties that `--final` confirms. A function that holds of the memory that each order leaves
+/// in which all threads have terminated holds of the last memory of each report in which each thread has ended or
+/// trapped. `txc run` prints such reports with exit status 0 or 3 (`reports_are_orders`).
 pub fn properties_hold_in_reports()
     ensures { PropertiesHoldInReports }
 {
@@ -99,8 +99,8 @@ pub fn properties_hold_in_reports()
     one_tree();
 }
 
-/// Every report keeps what `--refines` confirms. If one program refines another, an outcome of the other shows each report
-/// of the first in which each thread has ended or trapped, and so whatever `txc run` prints of it with exit status 0 or 3.
+/// Every report satisfies what `--refines` confirms: if one program refines another, an outcome of the other shows each
+/// report of the first in which each thread has ended or trapped, and so all that `txc run` prints with status 0 or 3.
 pub fn refined_reports_are_outcomes()
     ensures { RefinedReportsAreOutcomes }
 {
@@ -108,8 +108,8 @@ pub fn refined_reports_are_outcomes()
     one_tree();
 }
 
-/// An accepted program that lies no deeper than a program may (fault 11) has no fault of its source: what makes no code
-/// does not refuse it. What makes code refuses it for a limit of code alone.
+/// An accepted program within the depth limit (fault 11) has no fault of its source: a command that generates no code
+/// does not refuse it. A command that generates code refuses it only for a limit of code.
 pub fn accepted_programs_are_not_refused()
     ensures refused { AcceptedAreNotRefused }
     ensures limits { AcceptedPassLimits }
@@ -121,8 +121,8 @@ pub fn accepted_programs_are_not_refused()
     a_fault_touches();
 }
 
-/// There is one report that the source prints in an order. So one that is not certified, since another is printed in the
-/// order, is not printed in it.
+/// The source prints exactly one report in an order. A report that is not certified, because another one is printed in
+/// the order, is not printed in it.
 pub fn one_report_is_printed()
     ensures { OneReportIsPrinted }
 {

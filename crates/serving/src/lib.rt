@@ -1,5 +1,5 @@
-//! Does what a request asks, over readers and writers: sources and schedules are read, reports and refusals are
-//! written, and the exit status tells how it went.
+//! Serves requests, over readers and writers: reads sources and schedules, writes reports and refusals, and returns the
+//! exit status.
 #![tactic(auto)]
 
 mod all_outcomes;

@@ -108,7 +108,7 @@ fn refine_programs<A: Allocator + Copy, W: Write, E: Write>(
 {
     match outcomes_found(alloc, limits, this, teller) {
         Ok(found) => match outcomes_found(alloc, limits, that, teller) {
-            Ok(others) => tell_found(alloc, &found, name, &others, out, teller),
+            Ok(others) => tell_found(alloc, limits.threads, &found, name, &others, out, teller),
             Err(status) => status,
         },
         Err(status) => status,
@@ -146,15 +146,16 @@ fn outcomes_found<A: Allocator + Copy, E: Write>(
 /// Says whether each of these outcomes is one of the others, where both are all.
 fn tell_found<A: Allocator + Copy, W: Write, E: Write>(
     alloc: A,
+    threads: u32,
     found: &OutcomesFound<A>,
     name: &str,
     others: &OutcomesFound<A>,
     out: &mut W,
     teller: &mut Teller<'_, E>,
 ) -> u8
-    ensures { PrintsEither (SaysShown name.now found.now.end (map reported_of found.now.outcomes.items)
+    ensures { PrintsEither (SaysShown name.now threads found.now.end (map reported_of found.now.outcomes.items)
         (map reported_of found.now.stuck.items) others.now.end (map reported_of others.now.outcomes.items))
-        (ShowsUnshown name.now found.now.end (map reported_of found.now.outcomes.items)
+        (ShowsUnshown name.now threads found.now.end (map reported_of found.now.outcomes.items)
         (map reported_of found.now.stuck.items) others.now.end (map reported_of others.now.outcomes.items)) result
         (W.contents out.old) (W.contents out.new) }
 {
@@ -166,7 +167,7 @@ fn tell_found<A: Allocator + Copy, W: Write, E: Write>(
     }
     match first_beyond(alloc, found.outcomes.as_slice(), others.outcomes.as_slice()) {
         Ok(Some(one)) => tell_beyond(alloc, name, one, out, teller.err),
-        Ok(None) => tell_refined(alloc, found, name, others, out, teller),
+        Ok(None) => tell_refined(alloc, threads, found, name, others, out, teller),
         Err(_) => out_of_memory(teller.err),
     }
 }
@@ -194,6 +195,7 @@ fn tell_beyond<A: Allocator + Copy, W: Write, E: Write>(
 /// Says that each outcome is one of the others, unless an order is stuck.
 fn tell_refined<A: Allocator + Copy, W: Write, E: Write>(
     alloc: A,
+    threads: u32,
     found: &OutcomesFound<A>,
     name: &str,
     others: &OutcomesFound<A>,
@@ -202,7 +204,7 @@ fn tell_refined<A: Allocator + Copy, W: Write, E: Write>(
 ) -> u8
     ensures { PrintsEither
         (λ written. (map reported_of found.now.stuck.items ≡ []) × (written ≡ spec.refined_text name.now
-        (length found.now.outcomes.items) (length others.now.outcomes.items))) (λ written. ⊥) result
+        (length found.now.outcomes.items) (length others.now.outcomes.items) threads)) (λ written. ⊥) result
         (W.contents out.old) (W.contents out.new) }
 {
     if !found.stuck.is_empty() {
@@ -213,6 +215,7 @@ fn tell_refined<A: Allocator + Copy, W: Write, E: Write>(
         name,
         found.outcomes.len() as u64,
         others.outcomes.len() as u64,
+        threads,
     ) {
         Ok(text) => print_text(text.as_slice(), out, teller.err),
         Err(_) => out_of_memory(teller.err),

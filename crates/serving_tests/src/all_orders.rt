@@ -38,19 +38,46 @@ void worker(int self) {
     __transaction_atomic { done = done + 1; locked[0] = 0; locked[1] = 0; }
 }";
 
+/// The same with two more locks, which both take after the first two: one deadlock for each pair.
+const MORE_LOCKS: &[u8] = b"int locked[4], done;
+void take(int which) {
+    int mine = 0;
+    while (!mine) { __transaction_atomic { mine = !locked[which]; if (mine) locked[which] = 1; } }
+}
+void both(int self, int first) {
+    take(first + self);
+    take(first + 1 - self);
+    __transaction_atomic { done = done + 1; locked[first] = 0; locked[first + 1] = 0; }
+}
+void worker(int self) {
+    both(self, 0);
+    both(self, 2);
+}";
+
 /// 17 transactions inside one another: an accepted program that has no code.
 const DEEP: &[u8] =
     b"int x; void worker(int self) { __transaction_atomic { __transaction_atomic { __transaction_atomic { __transaction_atomic { __transaction_atomic { __transaction_atomic { __transaction_atomic { __transaction_atomic { __transaction_atomic { __transaction_atomic { __transaction_atomic { __transaction_atomic { __transaction_atomic { __transaction_atomic { __transaction_atomic { __transaction_atomic { __transaction_atomic { x = 1; } } } } } } } } } } } } } } } } } }";
 
 fn outcome_rows() -> &'static [Row] {
-    static ROWS: [Row; 22] = [
+    static ROWS: [Row; 24] = [
+        // two threads where no number is given
+        (
+            "txc outcomes a.c",
+            ADDS,
+            b"",
+            (
+                0,
+                b"== outcome --order 0,1\n== thread 0: ended\n== thread 1: ended\n== memory\nx = 2\n== outcomes: 1, stuck: 0, states: 4, threads: 2\n",
+                b"",
+            ),
+        ),
         (
             "txc outcomes a.c --threads 2",
             ADDS,
             b"",
             (
                 0,
-                b"== outcome --order 0,1\n== thread 0: ended\n== thread 1: ended\n== memory\nx = 2\n== outcomes: 1, stuck: 0, states: 4\n",
+                b"== outcome --order 0,1\n== thread 0: ended\n== thread 1: ended\n== memory\nx = 2\n== outcomes: 1, stuck: 0, states: 4, threads: 2\n",
                 b"",
             ),
         ),
@@ -60,7 +87,7 @@ fn outcome_rows() -> &'static [Row] {
             b"",
             (
                 0,
-                b"== outcome --order 0,1\n== thread 0: ended\n== thread 1: ended\n== memory\nx = 1\n== outcome --order 1,0\n== thread 0: ended\n== thread 1: ended\n== memory\nx = 0\n== outcomes: 2, stuck: 0, states: 5\n",
+                b"== outcome --order 0,1\n== thread 0: ended\n== thread 1: ended\n== memory\nx = 1\n== outcome --order 1,0\n== thread 0: ended\n== thread 1: ended\n== memory\nx = 0\n== outcomes: 2, stuck: 0, states: 5, threads: 2\n",
                 b"",
             ),
         ),
@@ -70,7 +97,7 @@ fn outcome_rows() -> &'static [Row] {
             b"",
             (
                 0,
-                b"== outcome --order 0,1\n== thread 0: ended\n== thread 1: ended\n== memory\na = 1\nb = 0\n== outcome --order 1,0\n== thread 0: ended\n== thread 1: ended\n== memory\na = 0\nb = 1\n== outcomes: 2, stuck: 0, states: 5\n",
+                b"== outcome --order 0,1\n== thread 0: ended\n== thread 1: ended\n== memory\na = 1\nb = 0\n== outcome --order 1,0\n== thread 0: ended\n== thread 1: ended\n== memory\na = 0\nb = 1\n== outcomes: 2, stuck: 0, states: 5, threads: 2\n",
                 b"",
             ),
         ),
@@ -81,29 +108,29 @@ fn outcome_rows() -> &'static [Row] {
             b"",
             (
                 3,
-                b"== outcome --order 0,1\n== thread 0: trap 2\n== thread 1: ended\n1\n== memory\nx = 1\n== outcome --order 1,0\n== thread 0: ended\n1\n== thread 1: trap 2\n== memory\nx = 1\n== outcomes: 2, stuck: 0, states: 5\n",
+                b"== outcome --order 0,1\n== thread 0: trap 2\n== thread 1: ended\n1\n== memory\nx = 1\n== outcome --order 1,0\n== thread 0: ended\n1\n== thread 1: trap 2\n== memory\nx = 1\n== outcomes: 2, stuck: 0, states: 5, threads: 2\n",
                 b"",
             ),
         ),
         // a thread without transactions has no turn
         (
-            "txc outcomes a.c",
+            "txc outcomes a.c --threads 1",
             b"void worker(int self) { printf(\"%d\", self); }",
             b"",
             (
                 0,
-                b"== outcome --order ''\n== thread 0: ended\n0\n== memory\n== outcomes: 1, stuck: 0, states: 1\n",
+                b"== outcome --order ''\n== thread 0: ended\n0\n== memory\n== outcomes: 1, stuck: 0, states: 1, threads: 1\n",
                 b"",
             ),
         ),
         // a turn without an end; one of which only some are, and one before the first transaction
         (
-            "txc outcomes a.c --steps 1000",
+            "txc outcomes a.c --threads 1 --steps 1000",
             b"int x; void worker(int self) { __transaction_atomic { x = 5; } while (1) { } }",
             b"",
             (
                 4,
-                b"== outcomes: 0, stuck: 0, states: 1, stopped at the steps\n",
+                b"== outcomes: 0, stuck: 0, states: 1, threads: 1, stopped at the steps\n",
                 b"",
             ),
         ),
@@ -113,27 +140,27 @@ fn outcome_rows() -> &'static [Row] {
             b"",
             (
                 4,
-                b"== outcomes: 0, stuck: 0, states: 3, stopped at the steps\n",
+                b"== outcomes: 0, stuck: 0, states: 3, threads: 2, stopped at the steps\n",
                 b"",
             ),
         ),
         (
-            "txc outcomes a.c --steps 1000",
+            "txc outcomes a.c --threads 1 --steps 1000",
             b"int x; void worker(int self) { while (1) { } __transaction_atomic { x = 5; } }",
             b"",
             (
                 4,
-                b"== outcomes: 0, stuck: 0, states: 0, stopped at the steps\n",
+                b"== outcomes: 0, stuck: 0, states: 0, threads: 1, stopped at the steps\n",
                 b"",
             ),
         ),
         (
-            "txc outcomes a.c --steps 0",
+            "txc outcomes a.c --threads 1 --steps 0",
             ADDS,
             b"",
             (
                 4,
-                b"== outcomes: 0, stuck: 0, states: 0, stopped at the steps\n",
+                b"== outcomes: 0, stuck: 0, states: 0, threads: 1, stopped at the steps\n",
                 b"",
             ),
         ),
@@ -144,7 +171,7 @@ fn outcome_rows() -> &'static [Row] {
             b"",
             (
                 4,
-                b"== outcomes: 0, stuck: 0, states: 1, stopped at the limit\n",
+                b"== outcomes: 0, stuck: 0, states: 1, threads: 2, stopped at the limit\n",
                 b"",
             ),
         ),
@@ -154,7 +181,7 @@ fn outcome_rows() -> &'static [Row] {
             b"",
             (
                 4,
-                b"== outcomes: 0, stuck: 0, states: 1, stopped at the limit\n",
+                b"== outcomes: 0, stuck: 0, states: 1, threads: 2, stopped at the limit\n",
                 b"",
             ),
         ),
@@ -164,7 +191,7 @@ fn outcome_rows() -> &'static [Row] {
             b"",
             (
                 4,
-                b"== outcomes: 0, stuck: 0, states: 3, stopped at the limit\n",
+                b"== outcomes: 0, stuck: 0, states: 3, threads: 2, stopped at the limit\n",
                 b"",
             ),
         ),
@@ -174,7 +201,7 @@ fn outcome_rows() -> &'static [Row] {
             b"",
             (
                 0,
-                b"== outcome --order 0,1\n== thread 0: ended\n== thread 1: ended\n== memory\nx = 2\n== outcomes: 1, stuck: 0, states: 4\n",
+                b"== outcome --order 0,1\n== thread 0: ended\n== thread 1: ended\n== memory\nx = 2\n== outcomes: 1, stuck: 0, states: 4, threads: 2\n",
                 b"",
             ),
         ),
@@ -185,27 +212,27 @@ fn outcome_rows() -> &'static [Row] {
             b"",
             (
                 4,
-                b"== outcome --order 0,1\n== thread 0: ended\n== thread 1: ended\n== memory\nx = 1\n== outcomes: 1, stuck: 0, states: 4, stopped at the limit\n",
+                b"== outcome --order 0,1\n== thread 0: ended\n== thread 1: ended\n== memory\nx = 1\n== outcomes: 1, stuck: 0, states: 4, threads: 2, stopped at the limit\n",
                 b"",
             ),
         ),
         (
-            "txc outcomes a.c --limit 2",
+            "txc outcomes a.c --threads 1 --limit 2",
             ADDS,
             b"",
             (
                 0,
-                b"== outcome --order 0\n== thread 0: ended\n== memory\nx = 1\n== outcomes: 1, stuck: 0, states: 2\n",
+                b"== outcome --order 0\n== thread 0: ended\n== memory\nx = 1\n== outcomes: 1, stuck: 0, states: 2, threads: 1\n",
                 b"",
             ),
         ),
         (
-            "txc outcomes a.c --limit 1",
+            "txc outcomes a.c --threads 1 --limit 1",
             b"int x; void worker(int self) { }",
             b"",
             (
                 0,
-                b"== outcome --order ''\n== thread 0: ended\n== memory\nx = 0\n== outcomes: 1, stuck: 0, states: 1\n",
+                b"== outcome --order ''\n== thread 0: ended\n== memory\nx = 0\n== outcomes: 1, stuck: 0, states: 1, threads: 1\n",
                 b"",
             ),
         ),
@@ -226,7 +253,7 @@ fn outcome_rows() -> &'static [Row] {
             b"",
             (
                 0,
-                b"== outcome --order 0,1\n== thread 0: ended\n== thread 1: ended\n== memory\nx = 4294967300\n== outcome --order 1,0\n== thread 0: ended\n== thread 1: ended\n== memory\nx = 8589934596\n== outcomes: 2, stuck: 0, states: 5\n",
+                b"== outcome --order 0,1\n== thread 0: ended\n== thread 1: ended\n== memory\nx = 4294967300\n== outcome --order 1,0\n== thread 0: ended\n== thread 1: ended\n== memory\nx = 8589934596\n== outcomes: 2, stuck: 0, states: 5, threads: 2\n",
                 b"",
             ),
         ),
@@ -237,7 +264,7 @@ fn outcome_rows() -> &'static [Row] {
             b"",
             (
                 0,
-                b"== outcome --order 0,1,1\n== thread 0: ended\n== thread 1: ended\n== memory\nflag = 7\nseen = 7\n== outcomes: 1, stuck: 0, states: 4\n",
+                b"== outcome --order 0,1,1\n== thread 0: ended\n== thread 1: ended\n== memory\nflag = 7\nseen = 7\n== outcomes: 1, stuck: 0, states: 4, threads: 2\n",
                 b"",
             ),
         ),
@@ -247,7 +274,7 @@ fn outcome_rows() -> &'static [Row] {
             b"",
             (
                 4,
-                b"== stuck --order ''\n== thread 0: waits\n== thread 1: waits\n== memory\nflag = 0\n== outcomes: 0, stuck: 1, states: 1\n",
+                b"== stuck --order ''\n== thread 0: waits\n== thread 1: waits\n== memory\nflag = 0\n== outcomes: 0, stuck: 1, states: 1, threads: 2\n",
                 b"",
             ),
         ),
@@ -258,7 +285,18 @@ fn outcome_rows() -> &'static [Row] {
             b"",
             (
                 4,
-                b"== outcome --order 0,0,0,1,1,1\n== thread 0: ended\n== thread 1: ended\n== memory\nlocked = 0 0\ndone = 2\n== stuck --order 0,1\n== thread 0: waits\n== thread 1: waits\n== memory\nlocked = 1 1\ndone = 0\n== outcomes: 1, stuck: 1, states: 13\n",
+                b"== outcome --order 0,0,0,1,1,1\n== thread 0: ended\n== thread 1: ended\n== memory\nlocked = 0 0\ndone = 2\n== stuck --order 0,1\n== thread 0: waits\n== thread 1: waits\n== memory\nlocked = 1 1\ndone = 0\n== outcomes: 1, stuck: 1, states: 13, threads: 2\n",
+                b"",
+            ),
+        ),
+        // a deadlock that only orders reach that avoid another
+        (
+            "txc outcomes a.c --threads 2",
+            MORE_LOCKS,
+            b"",
+            (
+                4,
+                b"== outcome --order 0,0,0,0,0,0,1,1,1,1,1,1\n== thread 0: ended\n== thread 1: ended\n== memory\nlocked = 0 0 0 0\ndone = 4\n== stuck --order 0,1\n== thread 0: waits\n== thread 1: waits\n== memory\nlocked = 1 1 0 0\ndone = 0\n== stuck --order 0,0,0,0,1,1,1,1\n== thread 0: waits\n== thread 1: waits\n== memory\nlocked = 0 0 1 1\ndone = 2\n== outcomes: 1, stuck: 2, states: 43, threads: 2\n",
                 b"",
             ),
         ),
@@ -290,7 +328,7 @@ pub(crate) const MANY: &str =
 fn shows_how_far_it_is(rt: HostRuntime) {
     let line = "txc outcomes a.c --threads 2";
     let told =
-        b"== outcome --order 0,0,0,0,0,0,0,0,0,0,0,0,0,0,0,0,0,0,0,0,0,0,0,0,0,0,0,0,0,0,0,0,0,0,0,0,0,0,0,0,1,1,1,1,1,1,1,1,1,1,1,1,1,1,1,1,1,1,1,1,1,1,1,1,1,1,1,1,1,1,1,1,1,1,1,1,1,1,1,1\n== thread 0: ended\n== thread 1: ended\n== memory\nx = 80\n== outcomes: 1, stuck: 0, states: 1681\n".as_slice();
+        b"== outcome --order 0,0,0,0,0,0,0,0,0,0,0,0,0,0,0,0,0,0,0,0,0,0,0,0,0,0,0,0,0,0,0,0,0,0,0,0,0,0,0,0,1,1,1,1,1,1,1,1,1,1,1,1,1,1,1,1,1,1,1,1,1,1,1,1,1,1,1,1,1,1,1,1,1,1,1,1,1,1,1,1\n== thread 0: ended\n== thread 1: ended\n== memory\nx = 80\n== outcomes: 1, stuck: 0, states: 1681, threads: 2\n".as_slice();
     let many = MANY.as_bytes();
     let shown =
         b"\rtxc: 1000 states\r                                                            \r".as_slice();

@@ -4,7 +4,7 @@ use test_serving::{ADDS, Row, wrong_row};
 
 const REFINES: &str = "txc outcomes a.c --threads 2 --refines b.c";
 
-const REFINES_ALONE: &str = "txc outcomes a.c --refines b.c";
+const REFINES_ALONE: &str = "txc outcomes a.c --threads 1 --refines b.c";
 
 const EXPECTS: &str = "txc outcomes a.c --threads 2 --expect b.c";
 
@@ -51,20 +51,27 @@ const DEEP: &[u8] =
 
 /// Programs that are compared with others.
 fn refined_rows() -> &'static [Row] {
-    static ROWS: [Row; 18] = [
+    static ROWS: [Row; 19] = [
+        // two threads where no number is given
+        (
+            "txc outcomes a.c --refines b.c",
+            WHOLE,
+            SPLIT,
+            (0, b"== refines b.c: outcomes 1 of 2, threads: 2\n", b""),
+        ),
         // a program has its own outcomes
         (
             REFINES,
             ADDS,
             ADDS,
-            (0, b"== refines b.c: outcomes 1 of 1\n", b""),
+            (0, b"== refines b.c: outcomes 1 of 1, threads: 2\n", b""),
         ),
         // a split transaction shows more than a whole one, and all that this shows
         (
             REFINES,
             WHOLE,
             SPLIT,
-            (0, b"== refines b.c: outcomes 1 of 2\n", b""),
+            (0, b"== refines b.c: outcomes 1 of 2, threads: 2\n", b""),
         ),
         (
             REFINES,
@@ -72,7 +79,7 @@ fn refined_rows() -> &'static [Row] {
             WHOLE,
             (
                 5,
-                b"== not an outcome of b.c --order 0,1,0,1\n== thread 0: ended\n== thread 1: ended\n== memory\nx = 2\n",
+                b"== not an outcome of b.c --order 0,1,1,0\n== thread 0: ended\n== thread 1: ended\n== memory\nx = 2\n",
                 b"",
             ),
         ),
@@ -92,7 +99,7 @@ fn refined_rows() -> &'static [Row] {
             REFINES,
             b"int x, y; void worker(int self) { __transaction_atomic { x = 1; y = self; } }",
             b"int n, y, x; void worker(int self) { __transaction_atomic { x = 1; y = self; n = n + 1; } }",
-            (0, b"== refines b.c: outcomes 2 of 2\n", b""),
+            (0, b"== refines b.c: outcomes 2 of 2, threads: 2\n", b""),
         ),
         (
             REFINES,
@@ -160,7 +167,7 @@ fn refined_rows() -> &'static [Row] {
             REFINES,
             TRAPS,
             TRAPS,
-            (0, b"== refines b.c: outcomes 2 of 2\n", b""),
+            (0, b"== refines b.c: outcomes 2 of 2, threads: 2\n", b""),
         ),
         (
             REFINES_ALONE,
@@ -210,7 +217,7 @@ fn refined_rows() -> &'static [Row] {
             REFINES,
             ORDERED,
             LOCKS,
-            (0, b"== refines b.c: outcomes 1 of 1\n", b""),
+            (0, b"== refines b.c: outcomes 1 of 1, threads: 2\n", b""),
         ),
     ];
     &ROWS
@@ -249,19 +256,19 @@ fn refused_rows() -> &'static [Row] {
         ),
         // a turn without an end, of one or of the other
         (
-            "txc outcomes a.c --refines b.c --steps 1000",
+            "txc outcomes a.c --threads 1 --refines b.c --steps 1000",
             b"int x; void worker(int self) { __transaction_atomic { x = 5; } while (1) { } }",
             ADDS,
             (4, b"", b"txc: a.c: stopped at the steps\n"),
         ),
         (
-            "txc outcomes a.c --refines b.c --steps 1000",
+            "txc outcomes a.c --threads 1 --refines b.c --steps 1000",
             ADDS,
             b"int x; void worker(int self) { __transaction_atomic { x = 5; } while (1) { } }",
             (4, b"", b"txc: b.c: stopped at the steps\n"),
         ),
         (
-            "txc outcomes a.c --refines b.c --steps 1000 --verbose",
+            "txc outcomes a.c --threads 1 --refines b.c --steps 1000 --verbose",
             ADDS,
             b"int x; void worker(int self) { __transaction_atomic { x = 5; } while (1) { } }",
             (
@@ -325,38 +332,49 @@ fn programs_are_compared_where_both_are_walked(rt: HostRuntime) {
 
 /// Programs that are compared with lists.
 fn expected_rows() -> &'static [Row] {
-    static ROWS: [Row; 20] = [
+    static ROWS: [Row; 21] = [
+        // a list of another number of threads
+        (
+            "txc outcomes a.c --expect b.c",
+            ADDS,
+            b"== outcome --order 0,1\n== thread 0: ended\n== thread 1: ended\n== memory\nx = 2\n== outcomes: 1, stuck: 0, states: 4, threads: 3\n",
+            (
+                5,
+                b"line 6 differs\nexpected: == outcomes: 1, stuck: 0, states: 4, threads: 3\nfound: == outcomes: 1, stuck: 0, states: 4, threads: 2\n",
+                b"",
+            ),
+        ),
         // the list as it was printed
         (
             EXPECTS,
             LAST,
-            b"== outcome --order 0,1\n== thread 0: ended\n== thread 1: ended\n== memory\nx = 1\n== outcome --order 1,0\n== thread 0: ended\n== thread 1: ended\n== memory\nx = 0\n== outcomes: 2, stuck: 0, states: 5\n",
+            b"== outcome --order 0,1\n== thread 0: ended\n== thread 1: ended\n== memory\nx = 1\n== outcome --order 1,0\n== thread 0: ended\n== thread 1: ended\n== memory\nx = 0\n== outcomes: 2, stuck: 0, states: 5, threads: 2\n",
             (0, b"as expected\n", b""),
         ),
         // one in which a thread traps, one with a stuck order
         (
             EXPECTS,
             TRAPS,
-            b"== outcome --order 0,1\n== thread 0: trap 2\n== thread 1: ended\n== memory\nx = 1\n== outcome --order 1,0\n== thread 0: ended\n== thread 1: trap 2\n== memory\nx = 1\n== outcomes: 2, stuck: 0, states: 5\n",
+            b"== outcome --order 0,1\n== thread 0: trap 2\n== thread 1: ended\n== memory\nx = 1\n== outcome --order 1,0\n== thread 0: ended\n== thread 1: trap 2\n== memory\nx = 1\n== outcomes: 2, stuck: 0, states: 5, threads: 2\n",
             (0, b"as expected\n", b""),
         ),
         (
             EXPECTS,
             LOCKS,
-            b"== outcome --order 0,0,0,1,1,1\n== thread 0: ended\n== thread 1: ended\n== memory\nlocked = 0 0\ndone = 2\n== stuck --order 0,1\n== thread 0: waits\n== thread 1: waits\n== memory\nlocked = 1 1\ndone = 0\n== outcomes: 1, stuck: 1, states: 13\n",
+            b"== outcome --order 0,0,0,1,1,1\n== thread 0: ended\n== thread 1: ended\n== memory\nlocked = 0 0\ndone = 2\n== stuck --order 0,1\n== thread 0: waits\n== thread 1: waits\n== memory\nlocked = 1 1\ndone = 0\n== outcomes: 1, stuck: 1, states: 13, threads: 2\n",
             (0, b"as expected\n", b""),
         ),
         (
             "txc outcomes a.c --threads 2 --expect b.c --limit 3",
             LAST,
-            b"== outcomes: 0, stuck: 0, states: 3, stopped at the limit\n",
+            b"== outcomes: 0, stuck: 0, states: 3, threads: 2, stopped at the limit\n",
             (4, b"", b"txc: a.c: as expected, stopped at the limit\n"),
         ),
         // by a walk that was stopped at the states or at the steps no list is confirmed or refuted
         (
             "txc outcomes a.c --threads 2 --expect b.c --limit 3",
             LAST,
-            b"== outcome --order 0,1\n== thread 0: ended\n== thread 1: ended\n== memory\nx = 1\n== outcome --order 1,0\n== thread 0: ended\n== thread 1: ended\n== memory\nx = 0\n== outcomes: 2, stuck: 0, states: 5\n",
+            b"== outcome --order 0,1\n== thread 0: ended\n== thread 1: ended\n== memory\nx = 1\n== outcome --order 1,0\n== thread 0: ended\n== thread 1: ended\n== memory\nx = 0\n== outcomes: 2, stuck: 0, states: 5, threads: 2\n",
             (4, b"", b"txc: a.c: stopped at the limit\n"),
         ),
         (
@@ -370,13 +388,13 @@ fn expected_rows() -> &'static [Row] {
             ),
         ),
         (
-            "txc outcomes a.c --expect b.c --steps 1000",
+            "txc outcomes a.c --threads 1 --expect b.c --steps 1000",
             b"int x; void worker(int self) { __transaction_atomic { x = 5; } while (1) { } }",
-            b"== outcomes: 0, stuck: 0, states: 1, stopped at the steps\n",
+            b"== outcomes: 0, stuck: 0, states: 1, threads: 1, stopped at the steps\n",
             (4, b"", b"txc: a.c: as expected, stopped at the steps\n"),
         ),
         (
-            "txc outcomes a.c --expect b.c --steps 1000",
+            "txc outcomes a.c --threads 1 --expect b.c --steps 1000",
             b"int x; void worker(int self) { __transaction_atomic { x = 5; } while (1) { } }",
             b"",
             (4, b"", b"txc: a.c: stopped at the steps\n"),
@@ -385,37 +403,37 @@ fn expected_rows() -> &'static [Row] {
         (
             EXPECTS,
             LAST,
-            b"== outcomes: 0, stuck: 0, states: 3, stopped at the limit\n",
+            b"== outcomes: 0, stuck: 0, states: 3, threads: 2, stopped at the limit\n",
             (
                 5,
-                b"line 1 differs\nexpected: == outcomes: 0, stuck: 0, states: 3, stopped at the limit\nfound: == outcome --order 0,1\n",
+                b"line 1 differs\nexpected: == outcomes: 0, stuck: 0, states: 3, threads: 2, stopped at the limit\nfound: == outcome --order 0,1\n",
                 b"",
             ),
         ),
         (
             EXPECTS,
             LAST,
-            b"== outcome --order 0,1\n== thread 0: ended\n== thread 1: ended\n== memory\nx = 2\n== outcomes: 1, stuck: 0, states: 4\n",
+            b"== outcome --order 0,1\n== thread 0: ended\n== thread 1: ended\n== memory\nx = 2\n== outcomes: 1, stuck: 0, states: 4, threads: 2\n",
             (5, b"line 5 differs\nexpected: x = 2\nfound: x = 1\n", b""),
         ),
         // a value that is another, as long
         (
             EXPECTS,
             LAST,
-            b"== outcome --order 0,1\n== thread 0: ended\n== thread 1: ended\n== memory\nx = 1\n== outcome --order 1,0\n== thread 0: ended\n== thread 1: ended\n== memory\nx = 2\n== outcomes: 2, stuck: 0, states: 5\n",
+            b"== outcome --order 0,1\n== thread 0: ended\n== thread 1: ended\n== memory\nx = 1\n== outcome --order 1,0\n== thread 0: ended\n== thread 1: ended\n== memory\nx = 2\n== outcomes: 2, stuck: 0, states: 5, threads: 2\n",
             (5, b"line 10 differs\nexpected: x = 2\nfound: x = 0\n", b""),
         ),
         // a line more, one less, outcomes in the other order
         (
             EXPECTS,
             LAST,
-            b"== outcome --order 0,1\n== thread 0: ended\n== thread 1: ended\n== memory\nx = 1\n== outcome --order 1,0\n== thread 0: ended\n== thread 1: ended\n== memory\nx = 0\n== outcomes: 2, stuck: 0, states: 5\n\n",
+            b"== outcome --order 0,1\n== thread 0: ended\n== thread 1: ended\n== memory\nx = 1\n== outcome --order 1,0\n== thread 0: ended\n== thread 1: ended\n== memory\nx = 0\n== outcomes: 2, stuck: 0, states: 5, threads: 2\n\n",
             (5, b"line 13 differs\nexpected: \nfound ends\n", b""),
         ),
         (
             EXPECTS,
             LAST,
-            b"== outcome --order 0,1\n== thread 0: ended\n== thread 1: ended\n== memory\nx = 1\n== outcome --order 1,0\n== thread 0: ended\n== thread 1: ended\n== memory\nx = 0\n== outcomes: 2, stuck: 0, states: 5\n== stuck --order 0\n",
+            b"== outcome --order 0,1\n== thread 0: ended\n== thread 1: ended\n== memory\nx = 1\n== outcome --order 1,0\n== thread 0: ended\n== thread 1: ended\n== memory\nx = 0\n== outcomes: 2, stuck: 0, states: 5, threads: 2\n== stuck --order 0\n",
             (
                 5,
                 b"line 12 differs\nexpected: == stuck --order 0\nfound: \n",
@@ -425,7 +443,7 @@ fn expected_rows() -> &'static [Row] {
         (
             EXPECTS,
             LAST,
-            b"== outcome --order 0,1\n== thread 0: ended\n== thread 1: ended\n== memory\nx = 1\n== outcome --order 1,0\n== thread 0: ended\n== thread 1: ended\nx = 0\n== outcomes: 2, stuck: 0, states: 5\n",
+            b"== outcome --order 0,1\n== thread 0: ended\n== thread 1: ended\n== memory\nx = 1\n== outcome --order 1,0\n== thread 0: ended\n== thread 1: ended\nx = 0\n== outcomes: 2, stuck: 0, states: 5, threads: 2\n",
             (
                 5,
                 b"line 9 differs\nexpected: x = 0\nfound: == memory\n",
@@ -435,7 +453,7 @@ fn expected_rows() -> &'static [Row] {
         (
             EXPECTS,
             LAST,
-            b"== outcome --order 1,0\n== thread 0: ended\n== thread 1: ended\n== memory\nx = 0\n== outcome --order 0,1\n== thread 0: ended\n== thread 1: ended\n== memory\nx = 1\n== outcomes: 2, stuck: 0, states: 5\n",
+            b"== outcome --order 1,0\n== thread 0: ended\n== thread 1: ended\n== memory\nx = 0\n== outcome --order 0,1\n== thread 0: ended\n== thread 1: ended\n== memory\nx = 1\n== outcomes: 2, stuck: 0, states: 5, threads: 2\n",
             (
                 5,
                 b"line 1 differs\nexpected: == outcome --order 1,0\nfound: == outcome --order 0,1\n",
@@ -456,7 +474,7 @@ fn expected_rows() -> &'static [Row] {
         (
             EXPECTS,
             LAST,
-            b"== outcome --order 0,1\n== thread 0: ended\n== thread 1: ended\n== memory\nx = 1\n== outcome --order 1,0\n== thread 0: ended\n== thread 1: ended\n== memory\nx = 0\n== outcomes: 2, stuck: 0, states: 5",
+            b"== outcome --order 0,1\n== thread 0: ended\n== thread 1: ended\n== memory\nx = 1\n== outcome --order 1,0\n== thread 0: ended\n== thread 1: ended\n== memory\nx = 0\n== outcomes: 2, stuck: 0, states: 5, threads: 2",
             (5, b"line 12 differs\nexpected ends\nfound: \n", b""),
         ),
         (
@@ -473,13 +491,13 @@ fn expected_rows() -> &'static [Row] {
         (
             EXPECTS,
             b"int x;",
-            b"== outcome --order 0,1\n== thread 0: ended\n== thread 1: ended\n== memory\nx = 1\n== outcome --order 1,0\n== thread 0: ended\n== thread 1: ended\n== memory\nx = 0\n== outcomes: 2, stuck: 0, states: 5\n",
+            b"== outcome --order 0,1\n== thread 0: ended\n== thread 1: ended\n== memory\nx = 1\n== outcome --order 1,0\n== thread 0: ended\n== thread 1: ended\n== memory\nx = 0\n== outcomes: 2, stuck: 0, states: 5, threads: 2\n",
             (1, b"", b"txc: fault 28 at 1:7: no worker\n"),
         ),
         (
             EXPECTS,
             DEEP,
-            b"== outcome --order 0,1\n== thread 0: ended\n== thread 1: ended\n== memory\nx = 1\n== outcome --order 1,0\n== thread 0: ended\n== thread 1: ended\n== memory\nx = 0\n== outcomes: 2, stuck: 0, states: 5\n",
+            b"== outcome --order 0,1\n== thread 0: ended\n== thread 1: ended\n== memory\nx = 1\n== outcome --order 1,0\n== thread 0: ended\n== thread 1: ended\n== memory\nx = 0\n== outcomes: 2, stuck: 0, states: 5, threads: 2\n",
             (
                 1,
                 b"",

@@ -27,7 +27,7 @@ fn rows() -> &'static [Row] {
             b"",
             (
                 4,
-                b"== outcomes: 0, stuck: 0, states: 3, stopped at the memory\n",
+                b"== outcomes: 0, stuck: 0, states: 3, threads: 2, stopped at the memory\n",
                 b"",
             ),
         ),
@@ -37,18 +37,18 @@ fn rows() -> &'static [Row] {
             b"",
             (
                 0,
-                b"== outcome --order 0,0,1,1\n== thread 0: ended\n== thread 1: ended\n== memory\nx = 2\n== outcome --order 0,1,0,1\n== thread 0: ended\n== thread 1: ended\n== memory\nx = 1\n== outcomes: 2, stuck: 0, states: 12\n",
+                b"== outcome --order 0,0,1,1\n== thread 0: ended\n== thread 1: ended\n== memory\nx = 2\n== outcome --order 0,1,1,0\n== thread 0: ended\n== thread 1: ended\n== memory\nx = 1\n== outcomes: 2, stuck: 0, states: 12, threads: 2\n",
                 b"",
             ),
         ),
         // states of 32,000 bytes each
         (
-            "txc outcomes a.c --memory 1",
+            "txc outcomes a.c --threads 1 --memory 1",
             TEN,
             b"",
             (
                 4,
-                b"== outcomes: 0, stuck: 0, states: 8, stopped at the memory\n",
+                b"== outcomes: 0, stuck: 0, states: 8, threads: 1, stopped at the memory\n",
                 b"",
             ),
         ),
@@ -90,21 +90,21 @@ fn it_is_told_what_lets_a_walk_go_on(rt: HostRuntime) {
     let alloc = rt.alloc();
     let at_limit = (
         4,
-        b"== outcomes: 0, stuck: 0, states: 1, stopped at the limit\n".as_slice(),
+        b"== outcomes: 0, stuck: 0, states: 1, threads: 2, stopped at the limit\n".as_slice(),
         b"txc: --limit L is how many states it looks at\n".as_slice(),
     );
     let line = "txc outcomes a.c --threads 2 --limit 1";
     assert!(rt; answers(&rt, alloc, line, TWICE, b"", true, at_limit));
     let at_steps = (
         4,
-        b"== outcomes: 0, stuck: 0, states: 1, stopped at the steps\n".as_slice(),
+        b"== outcomes: 0, stuck: 0, states: 1, threads: 1, stopped at the steps\n".as_slice(),
         b"txc: --steps N is how many steps a thread may make in one turn\n".as_slice(),
     );
-    let line = "txc outcomes a.c --verbose";
+    let line = "txc outcomes a.c --threads 1 --verbose";
     assert!(rt; answers(&rt, alloc, line, WAITS, b"", false, at_steps));
     let at_memory = (
         4,
-        b"== outcomes: 0, stuck: 0, states: 3, stopped at the memory\n".as_slice(),
+        b"== outcomes: 0, stuck: 0, states: 3, threads: 2, stopped at the memory\n".as_slice(),
         b"txc: --memory MB is how much memory states and list may take\n".as_slice(),
     );
     let line = "txc outcomes a.c --threads 2 --memory 0";

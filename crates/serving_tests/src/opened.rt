@@ -85,7 +85,7 @@ const TIMELINE: &str = "txc replay a.c --timeline --schedule s.txt";
 
 const RUN: &str = "txc run a.c";
 
-const REFINES: &str = "txc outcomes a.c --refines s.txt";
+const REFINES: &str = "txc outcomes a.c --threads 1 --refines s.txt";
 
 pub(crate) const NONE: Found = Err(ErrorKind::NotFound);
 
@@ -210,10 +210,10 @@ fn rows() -> &'static [Row] {
         (REFINES, Ok(ADDS), REFUSED, false, OUT_OF_MEMORY),
         // and both are read
         (
-            "txc outcomes a.c --expect s.txt",
+            "txc outcomes a.c --threads 1 --expect s.txt",
             Ok(ADDS),
             Ok(
-                b"== outcome --order 0\n== thread 0: ended\n== memory\nx = 1\n== outcomes: 1, stuck: 0, states: 2\n",
+                b"== outcome --order 0\n== thread 0: ended\n== memory\nx = 1\n== outcomes: 1, stuck: 0, states: 2, threads: 1\n",
             ),
             false,
             (0, b"as expected\n", b""),

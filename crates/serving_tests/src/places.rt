@@ -66,8 +66,15 @@ fn is_told_of_outcomes<H: Threads + Wait + Sync>(
     source: &[u8],
     told: &[u8],
 ) -> bool {
-    let shown = serve_line(rt, alloc, "txc outcomes a.c", source, b"", true);
-    let bare = serve_line(rt, alloc, "txc outcomes a.c", source, b"", false);
+    let shown = serve_line(rt, alloc, "txc outcomes a.c --threads 1", source, b"", true);
+    let bare = serve_line(
+        rt,
+        alloc,
+        "txc outcomes a.c --threads 1",
+        source,
+        b"",
+        false,
+    );
     match (shown, bare) {
         (Some(shown), Some(bare)) => {
             is_of_order(shown.err.as_slice(), told) && is_one_report(&shown, &bare)
@@ -100,7 +107,7 @@ fn wrong_trap<H: Threads + Wait + Sync>(
             }
         }
         if !is_told_of_outcomes(rt, alloc, source, told) {
-            return Some((number, "txc outcomes a.c"));
+            return Some((number, "txc outcomes a.c --threads 1"));
         }
     }
     None

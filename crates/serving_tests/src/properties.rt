@@ -5,7 +5,18 @@ use std::thread::Threads;
 use test_serving::{Row, wrong_row};
 
 fn property_rows() -> &'static [Row] {
-    static ROWS: [Row; 17] = [
+    static ROWS: [Row; 18] = [
+        // fails for two threads, whose number is not given
+        (
+            "txc outcomes a.c --always alone",
+            b"int x; int alone(void) { return x < 2; } void worker(int self) { __transaction_atomic { x = x + 1; } }",
+            b"",
+            (
+                5,
+                b"== not alone --order 0,1\n== thread 0: ended\n== thread 1: ended\n== memory\nx = 2\n",
+                b"",
+            ),
+        ),
         // holds in each state; and in each outcome
         (
             "txc outcomes a.c --threads 2 --always small --final done",
@@ -13,13 +24,13 @@ fn property_rows() -> &'static [Row] {
             b"",
             (
                 0,
-                b"== always small: states 4\n== final done: outcomes 1\n",
+                b"== always small: states 4, threads: 2\n== final done: outcomes 1, threads: 2\n",
                 b"",
             ),
         ),
         // fails in the first state, in the last one, on the way alone
         (
-            "txc outcomes a.c --always later",
+            "txc outcomes a.c --threads 1 --always later",
             b"int x; int later(void) { return x; } void worker(int self) { __transaction_atomic { x = 1; } }",
             b"",
             (
@@ -29,7 +40,7 @@ fn property_rows() -> &'static [Row] {
             ),
         ),
         (
-            "txc outcomes a.c --always early,early",
+            "txc outcomes a.c --threads 1 --always early,early",
             b"int x; int early(void) { return !x; } void worker(int self) { __transaction_atomic { x = 1; } }",
             b"",
             (
@@ -39,12 +50,12 @@ fn property_rows() -> &'static [Row] {
             ),
         ),
         (
-            "txc outcomes a.c --always even --final even",
+            "txc outcomes a.c --threads 1 --always even --final even",
             b"int x; int even(void) { return x % 2 == 0; } void worker(int self) { int i; for (i = 0; i < 2; i++) { __transaction_atomic { x = x + 1; } } }",
             b"",
             (
                 5,
-                b"== not even --order 0\n== thread 0: waits\n== memory\nx = 1\n== final even: outcomes 1\n",
+                b"== not even --order 0\n== thread 0: waits\n== memory\nx = 1\n== final even: outcomes 1, threads: 1\n",
                 b"",
             ),
         ),
@@ -82,14 +93,14 @@ fn property_rows() -> &'static [Row] {
         ),
         // what it writes is gone, and what it cancels too; it may begin transactions and call
         (
-            "txc outcomes a.c --always once",
+            "txc outcomes a.c --threads 1 --always once",
             b"int x; int one(int k) { __transaction_atomic { x = x + k; if (k == 2) __transaction_cancel; } return x; } int once(void) { x = x + 1; return one(1) == 2 && one(2) == 2; } void worker(int self) { __transaction_atomic { x = 0; } }",
             b"",
-            (0, b"== always once: states 2\n", b""),
+            (0, b"== always once: states 2, threads: 1\n", b""),
         ),
         // traps, by each of the traps that a call may come to
         (
-            "txc outcomes a.c --always far",
+            "txc outcomes a.c --threads 1 --always far",
             b"int x, a[2] = {1, 1}; int far(void) { return a[x * 2]; } void worker(int self) { __transaction_atomic { x = 1; } }",
             b"",
             (
@@ -99,7 +110,7 @@ fn property_rows() -> &'static [Row] {
             ),
         ),
         (
-            "txc outcomes a.c --always deep",
+            "txc outcomes a.c --threads 1 --always deep",
             b"int x; int deep(void); int deep(void) { return deep(); } void worker(int self) { __transaction_atomic { x = 1; } }",
             b"",
             (
@@ -110,7 +121,7 @@ fn property_rows() -> &'static [Row] {
         ),
         // takes too long in one state alone
         (
-            "txc outcomes a.c --always ends --steps 50",
+            "txc outcomes a.c --threads 1 --always ends --steps 50",
             b"int x; int ends(void) { while (x) { } return 1; } void worker(int self) { __transaction_atomic { x = 1; } }",
             b"",
             (
@@ -124,7 +135,11 @@ fn property_rows() -> &'static [Row] {
             "txc outcomes a.c --threads 2 --always small --limit 2",
             b"int x; int small(void) { return x <= 2; } void worker(int self) { __transaction_atomic { x = x + 1; } }",
             b"",
-            (4, b"== open small: states 2, stopped at the limit\n", b""),
+            (
+                4,
+                b"== open small: states 2, threads: 2, stopped at the limit\n",
+                b"",
+            ),
         ),
         (
             "txc outcomes a.c --threads 2 --always none --limit 2",
@@ -137,38 +152,42 @@ fn property_rows() -> &'static [Row] {
             ),
         ),
         (
-            "txc outcomes a.c --final none --steps 10",
-            b"int x; int none(void) { return x == 0; } void worker(int self) { while (1) { } }",
-            b"",
-            (4, b"== open none: outcomes 0, stopped at the steps\n", b""),
-        ),
-        (
-            "txc outcomes a.c --final none --steps 10 --verbose",
+            "txc outcomes a.c --threads 1 --final none --steps 10",
             b"int x; int none(void) { return x == 0; } void worker(int self) { while (1) { } }",
             b"",
             (
                 4,
-                b"== open none: outcomes 0, stopped at the steps\n",
+                b"== open none: outcomes 0, threads: 1, stopped at the steps\n",
+                b"",
+            ),
+        ),
+        (
+            "txc outcomes a.c --threads 1 --final none --steps 10 --verbose",
+            b"int x; int none(void) { return x == 0; } void worker(int self) { while (1) { } }",
+            b"",
+            (
+                4,
+                b"== open none: outcomes 0, threads: 1, stopped at the steps\n",
                 b"txc: --steps N is how many steps a thread may make in one turn\n",
             ),
         ),
         // holds, and an order is stuck
         (
-            "txc outcomes a.c --always none --final none",
+            "txc outcomes a.c --threads 1 --always none --final none",
             b"int x; int none(void) { return x == 0; } void worker(int self) { int f = 0; while (!f) { __transaction_atomic { f = x; } } }",
             b"",
             (
                 4,
-                b"== always none: states 1\n== final none: outcomes 0\n== stuck --order ''\n== thread 0: waits\n== memory\nx = 0\n",
+                b"== always none: states 1, threads: 1\n== final none: outcomes 0, threads: 1\n== stuck --order ''\n== thread 0: waits\n== memory\nx = 0\n",
                 b"",
             ),
         ),
         // a thread that traps leaves its memory
         (
-            "txc outcomes a.c --final kept",
+            "txc outcomes a.c --threads 1 --final kept",
             b"int x = 1; int kept(void) { return x == 1; } void worker(int self) { __transaction_atomic { x = 2; x = 1 / (x - 2); } }",
             b"",
-            (0, b"== final kept: outcomes 1\n", b""),
+            (0, b"== final kept: outcomes 1, threads: 1\n", b""),
         ),
     ];
     &ROWS
@@ -183,25 +202,25 @@ fn properties_are_asked(rt: HostRuntime) {
 fn refused_rows() -> &'static [Row] {
     static ROWS: [Row; 11] = [
         (
-            "txc outcomes a.c --always q",
+            "txc outcomes a.c --threads 1 --always q",
             b"int x; int p(void) { return x; } void worker(int self) { }",
             b"",
             (2, b"", b"txc: usage: --always q: no function of the file\n"),
         ),
         (
-            "txc outcomes a.c --always x",
+            "txc outcomes a.c --threads 1 --always x",
             b"int x; int p(void) { return x; } void worker(int self) { }",
             b"",
             (2, b"", b"txc: usage: --always x: no function of the file\n"),
         ),
         (
-            "txc outcomes a.c --final p,",
+            "txc outcomes a.c --threads 1 --final p,",
             b"int x; int p(void) { return x; } void worker(int self) { }",
             b"",
             (2, b"", b"txc: usage: --final : no function of the file\n"),
         ),
         (
-            "txc outcomes a.c --always u",
+            "txc outcomes a.c --threads 1 --always u",
             b"int x; unsigned u(void) { return 1u; } void worker(int self) { }",
             b"",
             (
@@ -211,7 +230,7 @@ fn refused_rows() -> &'static [Row] {
             ),
         ),
         (
-            "txc outcomes a.c --always v",
+            "txc outcomes a.c --threads 1 --always v",
             b"int x; void v(void) { } void worker(int self) { }",
             b"",
             (
@@ -221,7 +240,7 @@ fn refused_rows() -> &'static [Row] {
             ),
         ),
         (
-            "txc outcomes a.c --always l",
+            "txc outcomes a.c --threads 1 --always l",
             b"int x; long long l(void) { return x; } void worker(int self) { }",
             b"",
             (
@@ -231,7 +250,7 @@ fn refused_rows() -> &'static [Row] {
             ),
         ),
         (
-            "txc outcomes a.c --final w",
+            "txc outcomes a.c --threads 1 --final w",
             b"int x; int w(int k) { return x; } void worker(int self) { }",
             b"",
             (
@@ -241,7 +260,7 @@ fn refused_rows() -> &'static [Row] {
             ),
         ),
         (
-            "txc outcomes a.c --always worker",
+            "txc outcomes a.c --threads 1 --always worker",
             b"int x; void worker(int self) { }",
             b"",
             (
@@ -251,7 +270,7 @@ fn refused_rows() -> &'static [Row] {
             ),
         ),
         (
-            "txc outcomes a.c --always p,q",
+            "txc outcomes a.c --threads 1 --always p,q",
             b"int x; int p(void) { return 1; } int r(void) { printf(\"r\"); return 1; } int q(void) { return r(); } void worker(int self) { }",
             b"",
             (
@@ -261,7 +280,7 @@ fn refused_rows() -> &'static [Row] {
             ),
         ),
         (
-            "txc outcomes a.c --always p --final q",
+            "txc outcomes a.c --threads 1 --always p --final q",
             b"int x; int p(void) { return 1; } int q(void) { __transaction_relaxed { x = 1; } return 1; } void worker(int self) { }",
             b"",
             (
@@ -271,7 +290,7 @@ fn refused_rows() -> &'static [Row] {
             ),
         ),
         (
-            "txc outcomes a.c --always p",
+            "txc outcomes a.c --threads 1 --always p",
             b"int x; int p(void) { return y; } void worker(int self) { }",
             b"",
             (1, b"", b"txc: fault 20 at 1:29: unknown name\n"),

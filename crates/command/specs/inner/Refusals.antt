@@ -1,4 +1,4 @@
--- What the program refuses by itself, and what clap does.
+-- The program's own refusals, and those of clap.
 use Rattle.std.specs.Prelude.{◌≡◌, ◌≢◌, ◌⊎◌, ℕ, List, Option, Some}
 use Rattle.clap.specs.Words.{Row, Text, kind_of}
 use Rattle.clap.specs.declared.error.Error.{Error}
@@ -10,30 +10,30 @@ use Rattle.command.specs.declared.request.UsageFault.{UsageFault}
 use Rattle.command.specs.declared.request.UsageFault.TheVariants.{OutOfMemory, Help, Wrong}
 use Rattle.command.specs.Asked.{IsNumberInRange, IsRequest, IsTask}
 
--- no help: words that the command line has, and that are refused because this is so, or want of memory
+-- no help: words that the command line accepts, and that are refused because this holds, or an allocation failure
 abbrev pub IsOwn : Type 0 → UsageFault → Type 0
 IsOwn IsSo OutOfMemory = Unit {0}
 IsOwn IsSo (Help text) = ⊥
 IsOwn IsSo (Wrong text) = IsSo
 
--- no number is given for an argument in its range, and none is the default one
+-- no number in its range is given for an argument, and the default is not in it
 abbrev pub IsOutOfRange : List Row → Text → (default least most : ℕ) → Type 0
 IsOutOfRange given id default least most = (n : ℕ) → IsNumberInRange given id default least most n → ⊥
 
--- what is given for its arguments makes no task of this command, and no request
+-- the values of its arguments make no task of this command, and no request
 abbrev pub AreNoTask : Text → List Row → Type 0
 AreNoTask name given = (task : Task) → IsTask name given task → ⊥
 
 abbrev pub AreNoRequest : Text → List Row → Type 0
 AreNoRequest name given = (request : Request) → IsRequest name given request → ⊥
 
--- what a fault says of an error of clap
+-- the meaning of a fault for an error of clap
 abbrev pub SaysError : Error → UsageFault → Type 0
 SaysError e OutOfMemory = Unit {0}
 SaysError e (Help text) = (kind_of e ≡ DisplayHelp) ⊎ (kind_of e ≡ DisplayVersion)
 SaysError e (Wrong text) = (kind_of e ≢ kind.OutOfMemory) × (kind_of e ≢ DisplayHelp) × (kind_of e ≢ DisplayVersion)
 
--- a command was met, and its arguments make this request
+-- the words name a command, and its arguments make this request
 pub record HasGiven (met : Option (Text × List Row)) (request : Request) : Type 0 where
   pub name : Text
   pub given : List Row

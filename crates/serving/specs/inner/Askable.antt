@@ -1,10 +1,10 @@
--- What functions of a file say of themselves that are asked.
+-- The facts about functions of a file that are requested as properties.
 use Rattle.std.specs.Prelude.{◌≡◌, ◌&&◌, ℕ, List, [], false, Option, None, Some, if◌then◌else◌, is_some, bytes_eq}
 use Rattle.lex.specs.declared.token.Scalar.TheVariants.{Int}
 use Rattle.syntax.specs.Tree.{Defines, Function, Item, Shares}
 use Rattle.safety.specs.Safe.{FunctionSet}
 
--- a function that takes nothing, gives an int, and is none of the set
+-- a function that takes nothing, returns an int, and is not in the set
 abbrev pub MayBeAsked : FunctionSet → Function → Type 0
 MayBeAsked set f = (f.result ≡ Some Int) × (f.parameters ≡ []) × (set f.name.text ≡ false)
 

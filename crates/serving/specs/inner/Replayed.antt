@@ -1,4 +1,4 @@
--- What is shown of a replay's report.
+-- The content of a replay's report.
 use Rattle.syntax.specs.Tree.{Program}
 use Rattle.world.specs.declared.report.Report.{Report}
 use Rattle.world.specs.Reports.{threads_of}

@@ -1,4 +1,4 @@
--- Reports by runs of the source.
+-- Reports justified by runs of the source.
 use Rattle.std.specs.Prelude.{◌≡◌, ℕ, List, length, Some, false}
 use Rattle.std.specs.List.{slice_get}
 use Rattle.syntax.specs.Tree.{Program}
@@ -10,9 +10,9 @@ use Rattle.report.specs.Printed.{ThreadShown, Printed}
 use Rattle.serving.specs.Reports.{is_stopped}
 use Rattle.serving.specs.Shows.{shown_globals, thread_shown}
 
--- There is a run of the source, one whole transaction after another, whose last memory the globals shown are; each
+-- There is a run of the source, one whole transaction after another, whose last memory has the globals shown; each
 -- thread that is shown to have ended or trapped leaves there what it leaves in the run, on the memories that it finds
--- in it, and does just what is shown; and each thread stands in the run with the text that is shown.
+-- in it, and does just what is shown; and each thread is in the run with the text that is shown.
 pub record IsSerial (p : Program) (threads : ℕ) (shown : Printed) : Type 0 where
   pub run : List Step
   pub is_run : IsSourceRun p threads run

@@ -1,4 +1,4 @@
--- What the exit status of what is asked says, and what is written whatever it is.
+-- The meaning of the exit status of a request, and what is written for any exit status.
 use Rattle.std.specs.Prelude.{◌≡◌, ◌≤◌, ◌++◌, ℕ, List, Option, IfSome}
 use Rattle.command.specs.declared.request.Claim.{Claim}
 use Rattle.command.specs.declared.request.Comparison.{Comparison}
@@ -21,8 +21,8 @@ use Rattle.serving.specs.Verdicts.{IsEither, Tells}
 use Rattle.serving.specs.Written.{IsAskedFor, WritesPart}
 use Rattle.serving.specs.inner.Printing.{PrintsBehind, PrintsShown}
 
--- The status is at most so much; it says this of what was printed: the bytes that the writer had, if they are known, and
--- those that it has then; with 1 a text is refused, and nothing is printed; and this is written whatever it is.
+-- The status is at most so much; for what was printed it means this: the bytes that the writer had, if they are known,
+-- and those that it has then; with 1 a text is refused, and nothing is printed; and this is written for any status.
 pub record Serves (most : ℕ) (Says : ℕ → Option (List ℕ) → Option (List ℕ) → Type 0) (Refuses : Type 0)
     (Writes : Option (List ℕ) → Option (List ℕ) → Type 0) (status : ℕ) (old new : Option (List ℕ)) : Type 0 where
   pub within : status ≤ most
@@ -31,12 +31,12 @@ pub record Serves (most : ℕ) (Says : ℕ → Option (List ℕ) → Option (Lis
   pub written : Writes old new
   pub untouched : status ≡ 1 → new ≡ old
 
--- one task with a text: nothing is written, what is asked for, or a beginning of that
+-- one task with a text: the output is nothing, all that is requested, or a prefix of it
 abbrev pub ServesText : (Says : ℕ → Option (List ℕ) → Option (List ℕ) → Type 0) → (Refuses : Type 0) →
     (IsAsked : List ℕ → Type 0) → (status : ℕ) → (old new : Option (List ℕ)) → Type 0
 ServesText Says Refuses IsAsked status old new = Serves 4 Says Refuses (WritesPart IsAsked) status old new
 
--- what is asked of a file, where its bytes are known
+-- a request for a file, if its bytes are known
 abbrev pub ServesFile : (most : ℕ) → (Says : List ℕ → ℕ → Option (List ℕ) → Option (List ℕ) → Type 0) →
     (Refuses : List ℕ → Type 0) → (Writes : List ℕ → Option (List ℕ) → Option (List ℕ) → Type 0) →
     (bytes : Option (List ℕ)) → (status : ℕ) → (old new : Option (List ℕ)) → Type 0
@@ -65,14 +65,14 @@ ServesComparison c other bytes status old new =
     ServesFile 5 (λ text s o n. ComparesOutcomes c other text s o n) (λ text. HaveNoCode c.against other text)
     (λ text o n. WritesComparison c other text o n) bytes status old new
 
--- questions of their functions
+-- queries of their functions
 abbrev pub ServesQuestions : Questions → (bytes : Option (List ℕ)) → (status : ℕ) → (old new : Option (List ℕ)) →
     Type 0
 ServesQuestions questions bytes status old new =
     ServesFile 5 (λ text s o n. AnswersQuestions questions text s o n) (λ text. HasNoCode text)
     (λ text o n. WritesPart (IsToldOf questions text) o n) bytes status old new
 
--- whether something is so of these bytes or not
+-- whether something holds of these bytes or not
 abbrev pub ServesEither : (IsSo IsNot : List ℕ → List ℕ → Type 0) → (Refuses : Type 0) → (bytes : Option (List ℕ)) →
     (status : ℕ) → (old new : Option (List ℕ)) → Type 0
 ServesEither IsSo IsNot Refuses bytes status old new =
@@ -85,29 +85,29 @@ abbrev pub ServesExpected : (IsWhole : List ℕ → Type 0) → (Refuses : Type 
 ServesExpected IsWhole Refuses bytes status old new =
     ServesEither (SaysExpected IsWhole) (ShowsUnexpected IsWhole) Refuses bytes status old new
 
--- whether they are a report that is due
+-- whether they are an expected report
 abbrev pub ServesVerdict : (IsDue : List ℕ → Type 0) → (Refuses : Type 0) → (bytes : Option (List ℕ)) →
     (status : ℕ) → (old new : Option (List ℕ)) → Type 0
 ServesVerdict IsDue Refuses bytes status old new =
     ServesEither (SaysSo IsDue) (ShowsDifference IsDue) Refuses bytes status old new
 
--- a report is printed: no text is left to be refused
+-- a report is printed: no text can be refused any more
 abbrev pub PrintsReportOf : Printed → (status : ℕ) → (old new : Option (List ℕ)) → Type 0
 PrintsReportOf shown status old new =
     Serves 4 (PrintsShown shown) ⊥ (WritesPart (λ written. written ≡ report_text shown)) status old new
 
--- likewise, behind these lines
+-- likewise, after these lines
 abbrev pub PrintsTimelineOf : (lines : List ℕ) → Printed → (status : ℕ) → (old new : Option (List ℕ)) → Type 0
 PrintsTimelineOf lines shown status old new = Serves 4 (PrintsBehind lines shown) ⊥
     (WritesPart (λ written. written ≡ lines ++ report_text shown)) status old new
 
--- likewise, that something is so or not
+-- likewise, that something holds or not
 abbrev pub PrintsEither : (IsSo IsNot : List ℕ → Type 0) → (status : ℕ) → (old new : Option (List ℕ)) → Type 0
 PrintsEither IsSo IsNot status old new =
     Serves 5 (Tells IsSo IsNot) ⊥ (WritesPart (IsEither IsSo IsNot)) status old new
 
--- likewise, properties that are found
-abbrev pub PrintsProperties : (AreFound : WalkEnd → List Property → List ReportedOrder → Type 0) → (status : ℕ) →
-    (old new : Option (List ℕ)) → Type 0
-PrintsProperties AreFound status old new =
-    Serves 5 (TellsProperties AreFound) ⊥ (WritesPart (IsTextOfProperties AreFound)) status old new
+-- likewise, findings about properties
+abbrev pub PrintsProperties : (threads : ℕ) → (AreFound : WalkEnd → List Property → List ReportedOrder → Type 0) →
+    (status : ℕ) → (old new : Option (List ℕ)) → Type 0
+PrintsProperties threads AreFound status old new =
+    Serves 5 (TellsProperties threads AreFound) ⊥ (WritesPart (IsTextOfProperties threads AreFound)) status old new

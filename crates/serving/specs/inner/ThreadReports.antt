@@ -1,4 +1,4 @@
--- What is shown of a reported thread.
+-- The lines of a reported thread.
 use Rattle.std.specs.Prelude.{ℕ, List}
 use Rattle.syntax.specs.Behaviours.{ThreadEnd}
 use Rattle.meaning.specs.InOrder.{report_in}

@@ -1,4 +1,4 @@
--- What running a text's threads leaves, and what a fault of it says.
+-- The results of running a text's threads, and the meaning of a fault of it.
 use Rattle.std.specs.Prelude.{ℕ, List, map}
 use Rattle.report.specs.Printed.{Printed}
 use Rattle.report.specs.Views.{shown_of}
@@ -10,12 +10,12 @@ use Rattle.serving.specs.Limits.{IsFaultOfText}
 use Rattle.serving.specs.Runs.{held_by, threads_of_run}
 use Rattle.serving.specs.inner.Printing.{plain_report}
 
--- what a fault says of a text and of a number of threads
+-- the meaning of a fault for a text and a number of threads
 abbrev pub IsThreadsFault : (text : List ℕ) (threads : ℕ) → ThreadsFault → Type 0
 IsThreadsFault text threads (Source fault) = IsFaultOfText text fault
 IsThreadsFault text threads (Run fault) = IsRunRefused fault threads
 
--- what the report of a run of so many threads shows, by what the run leaves
+-- the content of the report of a run of so many threads, by the results of the run
 abbrev pub left_shown : (threads : ℕ) → RunLeft → Printed
 left_shown threads left =
     plain_report (threads_of_run left.ran threads) (map shown_of left.globals) (held_by left.ran.memory)

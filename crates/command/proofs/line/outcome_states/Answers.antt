@@ -2,7 +2,7 @@ use Rattle.command.proofs.line.outcome_states.Goals as goal
 
 pub returns : goal.returns
 returns c =
-    let one = c.with-command.ensures _ _ c.of_file-command.ensures c.threads.ensures.rule c.threads.ensures.global in
+    let one = c.with-command.ensures _ _ c.of_file-command.ensures c.threads_explored.ensures.rule c.threads_explored.ensures.global in
     let two = c.with-command-2.ensures _ _ one c.text-steps.ensures.rule c.text-steps.ensures.global in
     let three = c.with-command-3.ensures _ _ two c.text-limit.ensures.rule c.text-limit.ensures.global in
     let four = c.with-command-4.ensures _ _ three c.text-memory.ensures.rule c.text-memory.ensures.global in

@@ -3,5 +3,5 @@ use Rattle.report.proofs.OutcomeList.{seven_joined}
 use Rattle.report.proofs.outcome_list.push_count.Goals as goal
 
 pub returns : goal.returns
-returns g c = on_ok_weaker c.push_stop.result (λ last.
-    seven_joined _ _ _ _ _ _ _ _ _ _ _ _ _ _ _ c.in_ok-push_bytes.ensures c.in_ok-push_number.ensures c.in_ok-push_bytes-2.ensures c.in_ok-push_number-2.ensures c.in_ok-push_bytes-3.ensures c.in_ok-push_number-3.ensures last) c.push_stop.ensures
+returns g c = on_ok_weaker c.push_walk_words.result (λ last.
+    seven_joined _ _ _ _ _ _ _ _ _ _ _ _ _ _ _ c.in_ok-push_bytes.ensures c.in_ok-push_number.ensures c.in_ok-push_bytes-2.ensures c.in_ok-push_number-2.ensures c.in_ok-push_bytes-3.ensures c.in_ok-push_number-3.ensures last) c.push_walk_words.ensures

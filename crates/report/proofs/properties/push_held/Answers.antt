@@ -4,7 +4,7 @@ use Rattle.report.proofs.OutcomeList.{four_joined}
 use Rattle.report.proofs.properties.push_held.Goals as goal
 
 pub returns : goal.returns
-returns g c = on_ok_weaker c.push_bytes-2.result (λ last.
+returns g c = on_ok_weaker c.push_walk_words.result (λ last.
     four_joined _ _ _ _ _ _ _ _ _ c.in_ok-push_head.ensures
     (c.in_ok-push_bytes.ensures ∙ ap (λ bs. c.push_head.new.list.items ++ bs) c.as_bytes.ensures.value)
-    c.in_ok-push_states.ensures last) c.push_bytes-2.ensures
+    c.in_ok-push_states.ensures last) c.push_walk_words.ensures

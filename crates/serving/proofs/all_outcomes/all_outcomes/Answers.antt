@@ -17,7 +17,7 @@ returns-in-Ok g c =
     let printed = says (not_stopped c.print_outcomes-status.result status) in
     let are = subst (λ s. AreOutcomesOfText c.args.threads c.args.text.now found.end outcomes s) printed.1 c.in-Ok.ensures.are in
     let all = subst (λ e. AreOutcomesOfText c.args.threads c.args.text.now e outcomes []) printed.0 are in
-    let shown = subst (λ s. Appends (g.W.Write.contents c.args.out.now) (g.W.Write.contents c.print_outcomes-status.new.out) (list_text outcomes s found.states found.end)) printed.1 printed.3 in
-    let text = subst (λ e. Appends (g.W.Write.contents c.args.out.now) (g.W.Write.contents c.print_outcomes-status.new.out) (list_text outcomes [] found.states e)) printed.0 shown in
+    let shown = subst (λ s. Appends (g.W.Write.contents c.args.out.now) (g.W.Write.contents c.print_outcomes-status.new.out) (list_text outcomes s found.states c.args.threads found.end)) printed.1 printed.3 in
+    let text = subst (λ e. Appends (g.W.Write.contents c.args.out.now) (g.W.Write.contents c.print_outcomes-status.new.out) (list_text outcomes [] found.states c.args.threads e)) printed.0 shown in
     (outcomes, found.states, all, printed.2, text))
     (λ part. part_so _ _ _ _ (λ text e. (found.end, (outcomes, map reported_of found.stuck.items, found.states, c.in-Ok.ensures.are, e))) part)

@@ -6,7 +6,7 @@ use Rattle.serving.proofs.all_outcomes.print_outcomes.Goals as goal
 
 pub returns-in-Ok-print : goal.returns-in-Ok-print
 returns-in-Ok-print g c =
-    let text = c.as_slice-in-Ok.ensures.value ∙ c.in-Ok.ensures ∙ ap₂ (λ os ss. list_text (map reported_of os) (map reported_of ss) c.args.found.now.states c.args.found.now.end) c.as_slice.ensures.value c.as_slice-2.ensures.value in
+    let text = c.as_slice-in-Ok.ensures.value ∙ c.in-Ok.ensures ∙ ap₂ (λ os ss. list_text (map reported_of os) (map reported_of ss) c.args.found.now.states c.args.threads c.args.found.now.end) c.as_slice.ensures.value c.as_slice-2.ensures.value in
     record {
       within = c.status_of_outcomes.ensures.within;
       answers = λ goes. (
@@ -22,7 +22,7 @@ returns-in-Ok-print g c =
 
 pub returns-in-Ok : goal.returns-in-Ok
 returns-in-Ok g c =
-    let text = c.as_slice-in-Ok.ensures.value ∙ c.in-Ok.ensures ∙ ap₂ (λ os ss. list_text (map reported_of os) (map reported_of ss) c.args.found.now.states c.args.found.now.end) c.as_slice.ensures.value c.as_slice-2.ensures.value in
+    let text = c.as_slice-in-Ok.ensures.value ∙ c.in-Ok.ensures ∙ ap₂ (λ os ss. list_text (map reported_of os) (map reported_of ss) c.args.found.now.states c.args.threads c.args.found.now.end) c.as_slice.ensures.value c.as_slice-2.ensures.value in
     let four = c.cannot_write.ensures in
     record {
       within = omega (arith, four);

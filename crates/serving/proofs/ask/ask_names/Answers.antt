@@ -30,7 +30,7 @@ returns-in-Ok-clause-prints g c =
     let names = asked_each false (map (λ n. n.now) c.args.always.now) ++ asked_each true (map (λ n. n.now) c.args.last.now) in
     let askable = both_askable p (map (λ n. n.now) c.args.always.now) (map (λ n. n.now) c.args.last.now) always last in
     let are = subst (λ s. AreFoundOf p c.args.questions.now.threads s names found.end (map property_of found.properties.items) (map reported_of found.stuck.items)) c.extent_of.ensures c.in-Ok.ensures.found in
-    prints_so _ _ (these_so found.end (map property_of found.properties.items) (map reported_of found.stuck.items) _ (askable, are)) c.print_found-status.result _ _ c.print_found-status.ensures.prints
+    prints_so _ _ _ (these_so found.end (map property_of found.properties.items) (map reported_of found.stuck.items) _ (askable, are)) c.print_found-status.result _ _ c.print_found-status.ensures.prints
 
 pub returns-in-Err-clause-prints : goal.returns-in-Err-clause-prints
 returns-in-Err-clause-prints g c = refused_prints _ c.refuse_order.result _ _ c.refuse_order.ensures.status refl

@@ -15,6 +15,6 @@ returns-in-Ok g c =
     let stuck = map reported_of found.stuck.items in
     let threads = c.args.limits.threads in
     let text = c.args.text.now in
-    expected_served (λ t. (found.end ≡ Whole) × (t ≡ list_of found)) (IsListEnding Whole threads text)
-    (λ t is. (outcomes, stuck, found.states, subst (λ e. AreOutcomesOfText threads text e outcomes stuck) is.0 c.in-Ok.ensures.are, subst (λ e. t ≡ list_text outcomes stuck found.states e) is.0 is.1))
+    expected_served (λ t. (found.end ≡ Whole) × (t ≡ list_of found threads)) (IsListEnding Whole threads text)
+    (λ t is. (outcomes, stuck, found.states, subst (λ e. AreOutcomesOfText threads text e outcomes stuck) is.0 c.in-Ok.ensures.are, subst (λ e. t ≡ list_text outcomes stuck found.states threads e) is.0 is.1))
     (HasNoCode text) (g.Q.Read.remaining c.args.expected) c.expect_outcomes.result _ _ c.expect_outcomes.ensures

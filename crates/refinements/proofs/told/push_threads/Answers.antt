@@ -1,0 +1,10 @@
+use Rattle.std.specs.Prelude.{decimal}
+use Rattle.std.proofs.Common.{◌∙◌, ◌++◌, ap}
+use Rattle.std.proofs.lemmas.Result.{on_ok_weaker}
+use Rattle.refinements.proofs.Pieces.{three_joined}
+use Rattle.refinements.proofs.told.push_threads.Goals as goal
+
+pub returns : goal.returns
+returns g c = on_ok_weaker c.push_bytes-2.result (λ last.
+    three_joined _ _ _ _ _ _ _ c.in_ok-push_bytes.ensures
+    (c.in_ok-push_number.ensures ∙ ap (λ n. c.push_bytes.new.text.items ++ decimal n) c.from.ensures) last) c.push_bytes-2.ensures
