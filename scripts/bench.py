@@ -201,29 +201,29 @@ def turns(program, rounds):
 
 # A source for all outcomes of it: how it is called, its file or its text, how many threads, and the list's last line.
 ALL = [
-    ('`examples/counter.c`', 'counter.c', 3, 'outcomes: 1, stuck: 0, states: 64'),
-    ('`examples/counter.c`', 'counter.c', 8, 'outcomes: 1, stuck: 0, states: 65536'),
-    ('`examples/locks.c`', 'locks.c', 2, 'outcomes: 1, stuck: 1, states: 13'),
-    ('`examples/ticket.c`', 'ticket.c', 4, 'outcomes: 1, stuck: 0, states: 4905'),
-    ('`examples/queue.c`', 'queue.c', 2, 'outcomes: 128, stuck: 0, states: 1208'),
-    ('`examples/queue.c`', 'queue.c', 3, 'outcomes: 104919, stuck: 0, states: 642454'),
+    ('`examples/counter.c`', 'counter.c', 3, 'outcomes: 1, stuck: 0, states: 64, threads: 3'),
+    ('`examples/counter.c`', 'counter.c', 8, 'outcomes: 1, stuck: 0, states: 65536, threads: 8'),
+    ('`examples/locks.c`', 'locks.c', 2, 'outcomes: 1, stuck: 1, states: 13, threads: 2'),
+    ('`examples/ticket.c`', 'ticket.c', 4, 'outcomes: 1, stuck: 0, states: 4905, threads: 4'),
+    ('`examples/queue.c`', 'queue.c', 2, 'outcomes: 128, stuck: 0, states: 1208, threads: 2'),
+    ('`examples/queue.c`', 'queue.c', 3, 'outcomes: 104919, stuck: 0, states: 642454, threads: 3'),
     (
         'reads a word in a transaction, and adds 1 in the next',
         'int x; void worker(int self) { int t; __transaction_atomic { t = x; } __transaction_atomic { x = t + 1; } }',
         8,
-        'outcomes: 8, stuck: 0, states: 741218',
+        'outcomes: 8, stuck: 0, states: 741218, threads: 8',
     ),
     (
         'one transaction each that shows how many were before',
         'int x; void worker(int self) { int k; __transaction_atomic { k = x; x = x + 1; } printf("%d", k); }',
         6,
-        'outcomes: 720, stuck: 0, states: 1957',
+        'outcomes: 720, stuck: 0, states: 1957, threads: 6',
     ),
     (
         'three transactions each on an element of its own, stopped',
         'int a[16]; void worker(int self) { int i; for (i = 0; i < 3; i++) __transaction_atomic { a[self] = a[self] + 1; } }',
         10,
-        'outcomes: 1, stuck: 0, states: 1000000, stopped at the limit',
+        'outcomes: 1, stuck: 0, states: 1000000, threads: 10, stopped at the limit',
     ),
 ]
 

@@ -4,6 +4,10 @@ A program is a tree, so that each one that shrinking gives is well formed. No pr
 what was not written: numbers are `unsigned` but for a few globals, indices are masked, divisors are odd, shifts are by
 constants, locals have first values, and a loop's counter is not assigned in its body. `/*pause*/` marks where a thread
 may wait while others run.
+
+With the weight `wait` threads wait in loops around a transaction, for ever if no other thread ends the wait. The line
+of such a transaction has the mark WAIT; an iteration reads no local that an earlier one wrote. With the weight `alike`
+the threads of some programs all do the same, or begin alike and differ later, or are alike in two groups.
 """
 
 import collections
@@ -29,7 +33,20 @@ WEIGHTS = {
     "return": 1,
     "value": 2,
     "outer": 1,
+    "wait": 0,
+    "alike": 0,
 }
+WAIT = "/*wait*/"
+# Waits: {g}, {h} are globals, {bit} is 1 or 2.
+WAITS = [
+    "while ((__transaction_atomic ({g}) & {bit}) == 0u) ;",
+    "do {{ __transaction_atomic {{ l = {g} & {bit}; }} }} while (l != 0u);",
+    "do {{ __transaction_atomic {{ l = {g} & {bit}; if (l == 0u) {g} |= {bit}; }} }} while (l != 0u);",
+    "do {{ __transaction_atomic {{ l = {g} & {bit}; if (l != 0u) {g} ^= {bit}; }} }} while (l == 0u);",
+    "do {{ __transaction_atomic {{ l = {g} & {bit}; {h} ^= {bit}; }} }} while (l == 0u);",
+    "do {{ __transaction_atomic {{ {g} += {bit}; if (({g} & 2u) != 0u) __transaction_cancel; l = 0u; }} }} "
+    "while (l != 0u);",
+]
 NUMBERS = ["0u", "1u", "2u", "3u", "5u", "7u", "10u", "100u", "4294967295u"]
 # What GCC may make one wide access of, or a call of `memset`: {a}, {b} are arrays, {i} a new counter,
 # {op} an assignment.
@@ -281,6 +298,34 @@ class Program:
             made = block("for (int i0 = 0; i0 < 2; i0++) {{", [], [made])
         return [made, line('printf("v %u\\n", {});', Expr("l", []))] if self.happens(0.7) else [made]
 
+    def waits(self):
+        """A loop around a transaction, or none."""
+        if not self.weights["wait"] or not self.happens(0.2 * self.weights["wait"]):
+            return []
+        form = self.pick(WAITS) + WAIT
+        drawn = (("{g}", self.scalars), ("{h}", self.scalars), ("{bit}", ["1u", "1u", "2u"]))
+        for name, things in drawn:
+            form = form.replace(name, self.pick(things))
+        return [line(form)]
+
+    def part(self, count, names, place):
+        """So many transactions, with waits before them."""
+        return [it for _ in range(count) for it in [*self.waits(), *self.transaction(names, place)]]
+
+    def worker(self, names, place):
+        """What several threads do: each something of its own, all the same, or both."""
+        count = self.chance.randint(1, 2)
+        kind = self.pick(["own", "same", "both", "groups"]) if self.weights["alike"] else "own"
+        if kind == "same":
+            return self.part(count, names, place)
+        if kind == "groups":
+            parts = [self.part(count, names, place) for _ in (0, 1)]
+            return [block(f"if (self % 2 == {it}) {{{{", [], parts[it]) for it in (0, 1)]
+        first = self.part(1, names, place) if kind == "both" else []
+        return first + [
+            block(f"if (self == {thread}) {{{{", [], self.part(count, names, place)) for thread in range(self.threads)
+        ]
+
     def items(self):
         """Globals, functions, and a worker whose threads do one or two transactions each."""
         place = Place(0, 0, False, False, False, False, None, False)
@@ -288,12 +333,10 @@ class Program:
         for _ in range(self.chance.randint(0, 2) if self.weights["call"] else 0):
             items.append(self.function(place))
         place = place._replace(may_unsafe=True, returns="void")
-        names, body = ["l"], [line("unsigned l = (unsigned)self;")]
+        is_alike = self.weights["alike"] and self.happens(0.5)
+        names, body = ["l"], [line("unsigned l = 1u;" if is_alike else "unsigned l = (unsigned)self;")]
         if self.threads > 1:
-            count = self.chance.randint(1, 2)
-            for thread in range(self.threads):
-                done = [it for _ in range(count) for it in self.transaction(names, place)]
-                body.append(block(f"if (self == {thread}) {{{{", [], done))
+            body += self.worker(names, place)
         else:
             for _ in range(self.chance.randint(1, 3)):
                 body += self.transaction(names, place) if self.happens(0.8) else self.stmts(names, [3], place)
