@@ -1,10 +1,10 @@
--- a thread, and the thread of the code's meaning that it is
+-- a thread, and the thread of the code's semantics that it represents
 pub mod Threads
--- a thread that is carried on
+-- a thread that is resumed
 pub mod Carried
--- what is seen of a whole thread
+-- observations of a whole thread
 pub mod Whole
--- threads that rest
+-- threads at rest
 pub mod Resting
--- what only private functions and proofs speak of
+-- definitions for private functions and proofs only
 pub mod inner

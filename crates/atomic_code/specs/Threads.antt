@@ -1,4 +1,4 @@
--- A thread that runs its transactions as single steps, and the thread of the code's meaning that it is.
+-- A thread that runs its transactions as single steps, and the thread of the code's semantics that it represents.
 use Rattle.std.specs.Prelude.{◌≡◌, ℕ, Bool, List, [], ◌∷◌, ◌++◌, map, Option, None, Some}
 use Rattle.std.specs.List.{AllByRecursion}
 use Rattle.syntax.specs.declared.thread_end.Status.{Status}
@@ -12,14 +12,14 @@ use Rattle.bytecode.specs.Sequential.{Sequential, OpenTransaction, InnerTransact
 use Rattle.bytecode.specs.Valid.{bounds_of}
 use Rattle.frames.specs.Open.{MayStand, begin_configuration}
 
--- a thread: of each open begin it keeps what the begin saved, and not where a cancel goes on
+-- a thread: for each open begin it keeps what the begin saved, and not where a cancel continues
 pub record AtomicThread : Type 0 where
   pub configuration : Configuration
   pub open_in : Option (OpenTransaction Saved)
   pub text : List ℕ
   pub status : Status
 
--- a thread, and how many instructions it has made
+-- a thread, and how many instructions it has executed
 pub record AtomicThreadState : Type 0 where
   pub thread : AtomicThread
   pub steps : ℕ
@@ -28,11 +28,11 @@ pub record AtomicThreadState : Type 0 where
 abbrev pub first_thread : Code → ℕ → AtomicThread
 first_thread code t = record { configuration = beginning code t; open_in = None; text = []; status = Running }
 
--- where a cancel of a begin goes on, by what the begin saved
+-- where a cancel of a begin continues, given what the begin saved
 abbrev pub cancelled_from : Code → Configuration → Saved → Configuration
 cancelled_from code c s = after_cancel (effect code (begin_configuration c s)) (begin_configuration c s)
 
--- transactions with each begin said by a function of it
+-- transactions with a function applied to each begin
 abbrev pub inner_by : {S T : Type 0} → (S → T) → InnerTransaction S → InnerTransaction T
 inner_by f i = record { cancelled = f i.cancelled; mem = i.mem }
 
@@ -49,7 +49,7 @@ abbrev pub open_by : {S T : Type 0} → (S → T) → Option (OpenTransaction S)
 open_by f None = None
 open_by f (Some o) = Some (transaction_by f o)
 
--- the thread of the code's meaning, with these memories to find and these left
+-- the thread of the code's semantics, with these memories to find and these left
 abbrev pub meaning_thread : Code → List Memory → List Memory → Bool → AtomicThread → Sequential Configuration
 meaning_thread code founds lefts wants k = record {
   configuration = k.configuration;
@@ -76,12 +76,12 @@ abbrev pub HasMemories : {S : Type 0} → List ℕ → Option (OpenTransaction S
 HasMemories bounds None = Unit {0}
 HasMemories bounds (Some o) = AreTransactionMemories bounds o
 
--- a thread that runs may stand where it does, with the begins that are open there, and has memories of the code
+-- a running thread has a possible configuration, with the begins that are open there, and memories of the code
 pub record RunsAtomically (code : Code) (k : AtomicThread) : Type 0 where
   pub stands : MayStand code k.configuration (begins_of k.open_in)
   pub memories : HasMemories (bounds_of code) k.open_in
 
--- how a thread with this status stands: one that is over is in no transaction
+-- the invariant of a thread with this status: one that has terminated is in no transaction
 abbrev pub StandsAtomically : Code → AtomicThread → Status → Type 0
 StandsAtomically code k Running = RunsAtomically code k
 StandsAtomically code k HasEnded = k.open_in ≡ None

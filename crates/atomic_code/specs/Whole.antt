@@ -1,4 +1,4 @@
--- What is seen of a whole thread.
+-- Observations of a whole thread.
 use Rattle.std.specs.Prelude.{ℕ, List, map, string_bytes, Vec}
 use Rattle.syntax.specs.Behaviours as behaviours
 use Rattle.syntax.specs.Behaviours.{Memory, Outcome}

@@ -1,6 +1,6 @@
--- what one instruction comes to
+-- the outcome of one instruction
 pub mod Making
--- what a thread comes to that is carried on
+-- the outcome of a resumed thread
 pub mod Carrying
 -- a whole thread between two of its transactions
 pub mod Standing

@@ -11,7 +11,7 @@ use Rattle.syntax.specs.declared.tree.BinaryOp.TheVariants.{Multiply, Divide, Re
 use Rattle.bytecode.specs.Code.{Instr, FunctionCode, Code}
 use Rattle.bytecode.specs.Valid.{end_before}
 
--- operands, each behind a space
+-- operands, each after a space
 abbrev pub r_text : ℕ → List ℕ
 r_text r = codes " r" ++ decimal r
 
@@ -93,7 +93,7 @@ if_instr_text fs (Some i) = instr_text fs i
 abbrev pub text_at : Code → ℕ → List ℕ
 text_at code q = if_instr_text code.functions (slice_get code.instructions q)
 
--- instructions from a place on, a line each
+-- instructions from a place on, one line each
 abbrev pub lines_from : List FunctionCode → ℕ → List Instr → List ℕ
 lines_from fs q [] = []
 lines_from fs q (i ∷ is) = decimal q ++ 32 ∷ instr_text fs i ++ 10 ∷ lines_from fs (suc q) is

@@ -1,10 +1,10 @@
--- how a function's ways are followed
+-- how a function's paths are followed
 pub mod Walking
--- how the functions' codes lie
+-- the layout of the functions' codes
 pub mod Layout
 -- how instructions are written in words
 pub mod Spelling
--- what a code keeps
+-- the invariants of a stored code
 pub mod Stored
 -- the plain code that a code's words hold
 pub mod Words

@@ -2,7 +2,7 @@
 
 ghost use Rattle.std.specs.Prelude.{◌≡◌, take, drop};
 
-/// `count` items from a place on, so far as there are any.
+/// `count` items from a place on, as far as there are any.
 pub(crate) fn cut<T>(all: &[T], from: usize, count: usize) -> &[T]
     ensures { result.now ≡ take count (drop from all.now) }
 {

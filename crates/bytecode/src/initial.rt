@@ -1,4 +1,4 @@
-//! The memory in which the threads of a code begin, and what its cells keep of a word.
+//! The memory in which the threads of a code begin, and the words as its cells store them.
 
 ghost use Rattle.std.specs.Prelude.{◌≡◌, ◌++◌, ◌<◌, length, OnOk};
 ghost use Rattle.syntax.specs.Numbers.{residue};
@@ -11,7 +11,7 @@ use lex::token::Scalar;
 use std::alloc::{AllocError, Allocator};
 use syntax::initial::push_global;
 
-/// What a type sees of a word.
+/// The residue of a word for a type.
 fn value_by_type(ty: Scalar, word: u64) -> u64
     ensures { result ≡ residue ty word }
 {
@@ -22,8 +22,8 @@ fn value_by_type(ty: Scalar, word: u64) -> u64
 }
 
 impl<A: Allocator> Code<A> {
-    /// Adds the first word of each cell, in order: the one that its initialiser gives, or else 0. After an `Err`, which
-    /// comes only where a growth is refused, some of them are added.
+    /// Adds the first word of each cell, in order: that of its initialiser, or else 0. After an `Err`, which comes only
+    /// from an allocation failure, some of them are added.
     pub fn push_initial<B: Allocator>(&self, words: &mut Vec<u64, B>) -> Result<(), AllocError>
         ensures words { OnOk result (words.new.items ≡ words.old.items ++ initial_of self.now) }
         ensures valid { IsValid self.now }
@@ -36,7 +36,7 @@ impl<A: Allocator> Code<A> {
         Ok(())
     }
 
-    /// What a cell keeps of a word: its residue for the cell's type. Takes a look at each global up to the cell's.
+    /// A word as a cell stores it: its residue for the cell's type. Visits each global up to the cell's.
     pub fn stored_word(&self, cell: u32, word: u64) -> u64
         requires { cell < length (bounds_of self.now) }
         ensures { result ≡ word_for_cell self.now cell word }

@@ -1,4 +1,4 @@
-//! Instructions: one variant an instruction, its small operands first. An instruction takes 16 bytes.
+//! Instructions: one variant per instruction, its small operands first. An instruction takes 16 bytes.
 //!
 //! Registers are numbers within a frame, cells numbers within the shared memory, places numbers within the code. In a
 //! listing's line `rN` is a register, `@C` a cell, `#N` a number, `>P` a place.
@@ -11,7 +11,7 @@ use crate::kinds::computing;
 use lex::token::Scalar;
 use syntax::tree::BinaryOp;
 
-/// An instruction: the line that a listing shows of it, and what it does. Trap 1 is a result out of range, 2 a division
+/// An instruction: its line in a listing, and its effect. Trap 1 is a result out of range, 2 a division
 /// by zero, 3 an index, 4 a frame too many, 5 a shift count.
 #[derive(Clone, Copy)]
 pub enum Instr {
@@ -21,18 +21,18 @@ pub enum Instr {
     /// `move rD rA`: rD = rA.
     Move(u16, u16),
 
-    /// An operator of two registers on words of a type, `rD rA rB`, as a program has it. Behind its name stands `.s`
-    /// where it is of `int`, `.u` of `unsigned int`, `.l` of `long long`; `and`, `or`, `xor`, `eq` and `ne` look at the
-    /// words alone, and `>` and `>=` are `lt` and `le` the other way round.
+    /// An operator of two registers on words of a type, `rD rA rB`, as in a program. Its name is followed by `.s`
+    /// for `int`, `.u` for `unsigned int`, `.l` for `long long`; `and`, `or`, `xor`, `eq` and `ne` depend on the
+    /// words alone, and `>` and `>=` are `lt` and `le` with swapped operands.
     ///
-    /// - `add`, `sub`, `mul`: rD = rA + rB, rA - rB, rA * rB; trap 1 out of the range of `.s` and `.l`, modulo 2^32 in
+    /// - `add`, `sub`, `mul`: rD = rA + rB, rA - rB, rA * rB; trap 1 out of the range of `.s` and `.l`, modulo 2^32 for
     ///   `.u`.
-    /// - `div`, `rem`: rD = rA / rB, towards zero, and what division leaves; trap 2 where rB is 0, trap 1 where the
+    /// - `div`, `rem`: rD = rA / rB, truncated towards zero, and the remainder; trap 2 if rB is 0, trap 1 if the
     ///   quotient is out of range.
-    /// - `shl`: rD = rA * 2^rB, out of range as a product; `shr`: rD = rA / 2^rB, rounded down; trap 5 where rB is not 0
-    ///   to 31, or 63 in `.l`.
+    /// - `shl`: rD = rA * 2^rB, out of range as a product; `shr`: rD = rA / 2^rB, rounded down; trap 5 if rB is not 0
+    ///   to 31, or 63 for `.l`.
     /// - `and`, `or`, `xor`: rD = rA & rB, rA | rB, rA ^ rB, bit by bit.
-    /// - `eq`, `ne`, `lt`, `le`: rD = 1 where rA = rB, and so on, else 0.
+    /// - `eq`, `ne`, `lt`, `le`: rD = 1 if rA = rB, and so on, else 0.
     Compute(BinaryOp, Scalar, u16, u16, u16),
 
     /// `neg.s rD rA`: rD = -rA as `int`; trap 1 out of its range.
@@ -50,63 +50,63 @@ pub enum Instr {
     /// `not.l rD rA`: rD = ~rA, in 64 bits.
     ComplementLong(u16, u16),
 
-    /// `ext rD rA`: rD = the number of the `int` in rA, in 64 bits.
+    /// `ext rD rA`: rD = the `int` in rA, sign-extended to 64 bits.
     Extend(u16, u16),
 
     /// `low rD rA`: rD = the lower 32 bits of rA.
     Low(u16, u16),
 
-    /// `jump >P`: goes on at P.
+    /// `jump >P`: continues at P.
     Jump(u32),
 
-    /// `jz rA >P`: goes on at P where rA is 0.
+    /// `jz rA >P`: continues at P if rA is 0.
     JumpZero(u16, u32),
 
-    /// `jnz rA >P`: goes on at P where rA is not 0.
+    /// `jnz rA >P`: continues at P if rA is not 0.
     JumpNonzero(u16, u32),
 
-    /// `check rI #LEN`: trap 3 where rI is not below LEN.
+    /// `check rI #LEN`: trap 3 if rI is not below LEN.
     Check(u16, u32),
 
     /// `rd rD @C`: rD = cell C.
     Read(u16, u32),
 
-    /// `rdx rD @C #LEN rI`, as `(d, i, cell, length)`: rD = cell C + rI; trap 3 where rI is not below LEN.
+    /// `rdx rD @C #LEN rI`, as `(d, i, cell, length)`: rD = cell C + rI; trap 3 if rI is not below LEN.
     ReadAt(u16, u16, u32, u32),
 
     /// `wr @C rA`, as `(a, cell)`: cell C = rA, modulo the cell's type.
     Write(u16, u32),
 
-    /// `wrx @C #LEN rI rA`, as `(i, a, cell, length)`: cell C + rI = rA, modulo the cell's type; trap 3 where rI is not
+    /// `wrx @C #LEN rI rA`, as `(i, a, cell, length)`: cell C + rI = rA, modulo the cell's type; trap 3 if rI is not
     /// below LEN.
     WriteAt(u16, u16, u32, u32),
 
-    /// `begin >P`: begins a transaction, a cancel of which goes on at P.
+    /// `begin >P`: begins a transaction, a cancel of which continues at P.
     Begin(u32),
 
     /// `commit`: ends the innermost transaction.
     Commit,
 
-    /// `cancel`: undoes the innermost transaction, and goes on where its `begin` says.
+    /// `cancel`: undoes the innermost transaction, and continues where its `begin` says.
     Cancel,
 
-    /// `cancelx #K`: takes away the last K open begins, and goes on where a cancel of the outermost of these does.
+    /// `cancelx #K`: cancels the innermost K transactions, and continues where a cancel of the outermost of these does.
     CancelOuter(u32),
 
     /// `irrevocable`: takes the lock, so that a print can follow.
     Irrevocable,
 
-    /// `call NAME rD rA ..`, as `(d, count, f, first)`: calls function f with so many arguments, whose registers stand
-    /// in the code's list of arguments from `first` on; rD = what it gives. Trap 4 where it would be the 65th frame.
+    /// `call NAME rD rA ..`, as `(d, count, f, first)`: calls function f with `count` arguments, whose registers are
+    /// in the code's list of arguments from `first` on; rD = its result. Trap 4 if it would be the 65th frame.
     Call(u16, u16, u32, u32),
 
-    /// `ret`: gives 0.
+    /// `ret`: returns 0.
     Return,
 
-    /// `ret rA`: gives rA.
+    /// `ret rA`: returns rA.
     ReturnValue(u16),
 
-    /// `print.t #K`: prints the code's text of this number.
+    /// `print.t #K`: prints the code's text with this number.
     PrintText(u32),
 
     /// `print.s rA`: prints rA as `int`, in decimal.
@@ -120,7 +120,7 @@ pub enum Instr {
 }
 
 impl Instr {
-    /// The operator of two registers that a listing shows of the instruction, its type, the register that takes the
+    /// The instruction's operator of two registers as a listing shows it, its type, the register that takes the
     /// result, and these two; none for any other instruction.
     pub fn operator(&self) -> Option<(BinaryOp, Scalar, u16, u16, u16)>
         ensures { result ≡ operator_of (instr_of [] self.now) }

@@ -123,7 +123,7 @@ pub fn listing<A: Allocator>(alloc: A, code: &Code<A>) -> Result<String<A>, Allo
     Ok(text)
 }
 
-/// The text of the instruction at a place; none where there is no such place.
+/// The text of the instruction at a place; none if there is no such place.
 pub fn instruction_text<A: Allocator>(
     alloc: A,
     code: &Code<A>,

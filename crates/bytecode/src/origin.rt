@@ -1,8 +1,8 @@
-//! Where in a text an instruction comes from.
+//! The source range of an instruction.
 
 use lex::token::Span;
 
-/// The bytes of a text that an instruction was made of. An offset above 4294967295 is kept as that.
+/// The source bytes from which an instruction was generated. An offset above 4294967295 is stored as that.
 #[derive(Clone, Copy, PartialEq, Eq)]
 pub struct Origin {
     start: u32,
@@ -19,7 +19,7 @@ fn narrow(offset: usize) -> u32 {
 }
 
 impl Origin {
-    /// What comes from these bytes.
+    /// The origin with these bytes.
     pub fn new(at: Span) -> Origin {
         Origin {
             start: narrow(at.start),

@@ -1,4 +1,4 @@
-//! Which parts are a valid code.
+//! Which parts form a valid code.
 
 ghost use Rattle.std.specs.Prelude.{◌≡◌, ◌<◌, ◌≤◌, ◌+◌, MatchOption, IfOk, IfErr, IsTrue, ◌↔◌, fold, flat_map, length};
 ghost use Rattle.std.specs.Prelude.{map};
@@ -24,10 +24,10 @@ use std::hash::{DefaultHasher, Hash, Hasher};
 use syntax::limits::MOST_CELLS;
 use syntax::tree::Global;
 
-/// Why it was not found out whether parts are valid: they come back as they were given.
+/// Why the validity of parts is unknown: they are returned unchanged.
 #[derive(Drop)]
 pub enum PartsFault<A: Allocator = std::alloc::Global> {
-    /// A growth was refused. It says nothing of the parts.
+    /// An allocation failed. This says nothing about the parts.
     OutOfMemory(Parts<A>),
 }
 
@@ -57,7 +57,7 @@ impl<A: Allocator> PartsFault<A> {
     }
 }
 
-/// The number of all cells, where they are not too many.
+/// The number of all cells, if they are not too many.
 fn count_cells<A: Allocator>(globals: &[Global<A>]) -> Option<usize>
     ensures { MatchOption result (MOST_CELLS < length (initial_from (map global_of globals.now)))
         (λ n. (n ≡ length (initial_from (map global_of globals.now))) × (n ≤ MOST_CELLS)) }
@@ -104,7 +104,7 @@ fn are_laid_out<A: Allocator>(parts: &Parts<A>) -> bool
     true
 }
 
-/// The hash of all functions' names, in order: so no name can be chosen for the key that it will have a part in.
+/// The hash of all functions' names, in order: so no name can be chosen for the key that it helps to determine.
 fn key_of<A: Allocator>(functions: &[FunctionCode<A>]) -> u64
     ensures { result ≡ sip.finish (fold sip.write sip.initial (flat_map (λ f. fed.str f.name) functions.now)) }
 {
@@ -115,7 +115,7 @@ fn key_of<A: Allocator>(functions: &[FunctionCode<A>]) -> u64
     hasher.finish()
 }
 
-/// Whether no two functions have one name.
+/// Whether no two functions have the same name.
 fn have_distinct_names<A: Allocator + Copy>(alloc: A, parts: &Parts<A>) -> Result<bool, AllocError>
     ensures { IfOk result (λ b. IsTrue b ↔ HasDistinctNames (code_of parts.now)) }
 {
@@ -143,7 +143,7 @@ fn has_worker<A: Allocator>(parts: &Parts<A>) -> bool
     false
 }
 
-/// Whether what a function's instructions name is there.
+/// Whether everything that a function's instructions name exists.
 fn are_written<A: Allocator>(
     parts: &Parts<A>,
     f: &FunctionCode<A>,
@@ -205,7 +205,7 @@ fn are_valid_functions<A: Allocator + Copy>(
     Ok(true)
 }
 
-/// Whether parts are a valid code.
+/// Whether parts form a valid code.
 fn is_valid<A: Allocator + Copy>(alloc: A, parts: &Parts<A>) -> Result<bool, AllocError>
     ensures { IfOk result (λ b. IsTrue b ↔ IsValid (code_of parts.now)) }
 {
@@ -232,14 +232,14 @@ fn is_valid<A: Allocator + Copy>(alloc: A, parts: &Parts<A>) -> Result<bool, All
     }
 }
 
-/// The code of these very parts, and `None` exactly where they are not valid. Takes memory for an arrival and a place
+/// The code of exactly these parts, or `None` if and only if they are not valid. Allocates an arrival and a place
 /// for each of the longest function's instructions and a name for each function; and for the words of a valid code, and
-/// the first word of each of its instructions. Where that is refused, or these words are more than 2^32, the parts come
-/// back.
+/// the first word of each of its instructions. If that fails, or there are more than 2^32 of these words, the parts are
+/// returned.
 ///
-/// Takes time for the parts' size, and for each `cancelx #K` that a way comes to for K more, or for the number of
-/// begins that are open there where that is less. So N instructions may take time for the square of N: where a third of
-/// them are begins that stay open, and another third cancels of them all.
+/// Takes time linear in the parts' size, and for each reachable `cancelx #K` also in the minimum of K and the number of
+/// begins that are open there. So N instructions may take time quadratic in N: if a third of them are begins that stay
+/// open, and another third cancels of them all.
 pub fn validate<A: Allocator + Copy>(
     alloc: A,
     parts: Parts<A>,

@@ -1,4 +1,4 @@
-//! Ways through a function.
+//! Paths through a function.
 
 ghost use Rattle.std.specs.Prelude.{◌≡◌, ◌+◌, ◌≤◌, ◌<◌, ◌^◌, IfOk, IfSome, IsTrue, ◌↔◌, length, slice_get, Some, None};
 ghost use Rattle.std.specs.Prelude.{map, option_map, replicate, ◌-◌, ℕ, List, []};
@@ -14,16 +14,16 @@ use crate::code::{FunctionCode, Parts};
 use crate::instr::Instr;
 use std::alloc::{AllocError, Allocator};
 
-/// What is known of a place: whether a way comes to it, and the innermost begin that is open there.
+/// The analysis result for a place: whether a path reaches it, and the innermost begin that is open there.
 #[derive(Clone, Copy)]
 pub(crate) enum Arrival {
-    /// No way so far.
+    /// No path so far.
     Unseen,
 
-    /// A way on which no begin is open.
+    /// A path on which no begin is open.
     Outside,
 
-    /// A way on which the begin at this place is the innermost one that is open.
+    /// A path on which the begin at this place is the innermost open one.
     Inside(usize),
 }
 
@@ -58,7 +58,7 @@ fn way_on(instr: &Instr) -> Successor
     }
 }
 
-/// A way comes to a place: whether it may.
+/// A path reaches a place: whether it may.
 fn visit<A: Allocator>(
     arrivals: &mut [Arrival],
     work: &mut Vec<usize, A>,
@@ -101,7 +101,7 @@ fn arrival_of(arrivals: &[Arrival], first: usize, at: usize) -> Option<Arrival>
     arrivals.get(at - first).copied()
 }
 
-/// A way comes to a place back under the begin that encloses the one at `under`.
+/// A path reaches a place, back inside the begin that encloses the one at `under`.
 fn reopen<A: Allocator>(
     arrivals: &mut [Arrival],
     work: &mut Vec<usize, A>,
@@ -120,7 +120,7 @@ fn reopen<A: Allocator>(
     }
 }
 
-/// Where a cancel of the begin at a place goes on, if a begin stands there.
+/// Where a cancel of the begin at a place continues, if a begin is there.
 fn cancel_in(instr: &Instr) -> Option<u32>
     ensures { (arguments : List ℕ) → result ≡ begun_by (instr_of arguments instr.now) }
 {
@@ -139,7 +139,7 @@ fn cancel_at(instrs: &[Instr], at: usize) -> Option<u32>
     }
 }
 
-/// Goes on where a cancel of the begin at a place does: whether a way may come there.
+/// Continues where a cancel of the begin at a place does: whether a path may reach that.
 fn cancel<A: Allocator>(
     instrs: &[Instr],
     arrivals: &mut [Arrival],
@@ -159,7 +159,7 @@ fn cancel<A: Allocator>(
     }
 }
 
-/// The begin round the one at a place, and the one round that, so many times.
+/// The begin that encloses the one at a place, and the one that encloses that, and so on this many times.
 fn begin_round(arrivals: &[Arrival], first: usize, times: u32, begin: usize) -> Option<usize>
     ensures { result ≡ begin_round first arrivals.now times begin }
 {
@@ -175,8 +175,8 @@ fn begin_round(arrivals: &[Arrival], first: usize, times: u32, begin: usize) -> 
     Some(round)
 }
 
-/// Goes on where a cancel of so many levels does, the innermost of which is the begin at a place: whether there are so
-/// many, and a way may come there. Takes a look at an arrival for each level.
+/// Continues where a cancel of several levels does, the innermost of which is the begin at a place: whether there are
+/// that many, and a path may reach that. Visits an arrival for each level.
 fn cancel_outer<A: Allocator>(
     instrs: &[Instr],
     arrivals: &mut [Arrival],
@@ -196,7 +196,7 @@ fn cancel_outer<A: Allocator>(
     }
 }
 
-/// Goes on from a place by the way of its instruction: whether each way on may go where it goes.
+/// Continues from a place by its instruction's successors: whether each path may reach its next place.
 fn go_by<A: Allocator>(
     instrs: &[Instr],
     arrivals: &mut [Arrival],
@@ -233,7 +233,7 @@ fn go_by<A: Allocator>(
         },
         Successor::CancelsOuter(levels) => match arrival {
             Arrival::Inside(b) => cancel_outer(instrs, arrivals, work, first, b, levels),
-            // A cancel of no levels asks for no begin.
+            // A cancel of no levels requires no begin.
             _ => Ok(levels == 0),
         },
         Successor::Ends => match arrival {
@@ -243,7 +243,7 @@ fn go_by<A: Allocator>(
     }
 }
 
-/// Goes on from a place by its instruction: whether each way on may go where it goes.
+/// Continues from a place by its instruction: whether each path may reach its next place.
 fn go_on<A: Allocator>(
     instrs: &[Instr],
     arrivals: &mut [Arrival],
@@ -262,7 +262,7 @@ fn go_on<A: Allocator>(
     go_by(instrs, arrivals, work, first, at, arrival, way)
 }
 
-/// The walk over a function's ways, by arrivals that are all unseen and an empty list of work.
+/// The walk over a function's paths, given arrivals that are all unseen and an empty work list.
 fn walk_over<A: Allocator>(
     instrs: &[Instr],
     first: usize,
@@ -297,9 +297,9 @@ fn walk_over<A: Allocator>(
     Ok(true)
 }
 
-/// Whether the ways through a function stay in it, come to each place with one list of open begins, and have the begins
-/// that its instructions ask for. Takes time for the function's length, and for a cancel of several levels that a way
-/// comes to for so many more, or for the begins that are open there where these are fewer.
+/// Whether the paths through a function stay in it, reach each place with one list of open begins, and have the begins
+/// that its instructions require. Takes time linear in the function's length, and for each reachable cancel of several
+/// levels also in the minimum of these and the begins that are open there.
 pub(crate) fn walk<A: Allocator + Copy>(
     alloc: A,
     parts: &Parts<A>,

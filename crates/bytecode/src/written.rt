@@ -1,4 +1,4 @@
-//! Whether what an instruction names is there.
+//! Whether everything that an instruction names exists.
 
 ghost use Rattle.std.specs.Prelude.{◌≡◌, ◌<◌, ◌≤◌, ◌+◌, IsTrue, ◌↔◌, length, slice_get, map, Some};
 ghost use Rattle.std.specs.List.{AllByRecursion};
@@ -60,7 +60,7 @@ fn takes<A: Allocator>(parts: &Parts<A>, g: u32, count: usize) -> bool
     }
 }
 
-/// Whether what an instruction of a function names is there.
+/// Whether everything that an instruction of a function names exists.
 pub(crate) fn is_written<A: Allocator>(
     parts: &Parts<A>,
     f: &FunctionCode<A>,

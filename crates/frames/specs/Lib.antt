@@ -1,10 +1,10 @@
 -- a thread's frames as contracts see them
 pub mod Stack
--- what stands at a thread's place to be done
+-- the next action of a thread, at its place
 pub mod Doings
--- in which configurations a thread of a code may stand, and how a begin is gone back to
+-- the possible configurations of a code's thread, and how it returns to a begin
 pub mod Open
--- words that tell frames apart
+-- words that distinguish frames
 pub mod Words
--- what only private functions and proofs speak of
+-- definitions for private functions and proofs only
 pub mod inner

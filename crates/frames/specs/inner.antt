@@ -1,4 +1,4 @@
--- how the frames of a thread lie in one list of registers
+-- the layout of a thread's frames in one list of registers
 pub mod Laid
--- what an instruction does, given the instruction
+-- the action of an instruction
 pub mod Outcomes

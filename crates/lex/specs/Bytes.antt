@@ -1,4 +1,4 @@
--- Classes of bytes, as pieces of a text are made of them. Letters and digits are those of C11 5.2.1, in ASCII.
+-- Classes of bytes, which pieces of a text consist of. Letters and digits are those of C11 5.2.1, in ASCII.
 use Rattle.std.specs.Prelude.{◌≡◌, ℕ, ◌<◌, Bool, true, false, not, ◌&&◌, ◌||◌, ◌==◌, nat_le, nat_lt, List, [], ◌∷◌}
 use Rattle.std.specs.Prelude.{length, slice_index}
 
@@ -27,7 +27,7 @@ is_letter b = (nat_le 97 b && nat_le b 122) || (nat_le 65 b && nat_le b 90) || b
 abbrev pub is_part : ℕ → Bool
 is_part b = is_letter b || is_digit b
 
--- what can't stand directly behind a constant: a letter, a digit, `_` or `.`
+-- a byte that can't directly follow a constant: a letter, a digit, `_` or `.`
 abbrev pub is_glue : ℕ → Bool
 is_glue b = is_part b || b == 46
 
@@ -35,7 +35,7 @@ is_glue b = is_part b || b == 46
 abbrev pub in_line : ℕ → Bool
 in_line b = not (b == 10)
 
--- a byte of a character that is not its first (UTF-8, RFC 3629)
+-- a continuation byte of a character (UTF-8, RFC 3629)
 abbrev pub is_continuation : ℕ → Bool
 is_continuation b = nat_le 128 b && nat_lt b 192
 
@@ -48,7 +48,7 @@ abbrev pub starts : (ℕ → Bool) → List ℕ → Bool
 starts p [] = false
 starts p (b ∷ w) = p b
 
--- a byte that stands for itself in a string: 0x20 to 0x7E but `"` and the backslash
+-- a byte that denotes itself in a string: 0x20 to 0x7E except `"` and the backslash
 abbrev pub is_plain : ℕ → Bool
 is_plain b = nat_le 32 b && nat_le b 126 && not (b == 34) && not (b == 92)
 

@@ -1,4 +1,4 @@
--- What is wrong with a text that has no tokens: the first fault, its number and its place.
+-- The fault of a text without tokens: the first one, its number and its span.
 use Rattle.std.specs.Prelude.{◌≡◌, ℕ, ◌+◌, ◌<◌, ◌≤◌, true, List, [], ◌∷◌, length, take, drop, codes, Option, Some, None}
 use Rattle.std.specs.List.{prefix_len}
 use Rattle.lex.specs.declared.lexer.TheConstants.{MOST_BYTES}
@@ -11,12 +11,12 @@ use Rattle.lex.specs.Tokens.{Tok}
 use Rattle.lex.specs.Pieces.{IsOpen, IsDirective, IsInclude, Constant, constant_type, Longest, HasNoShape, FirstOnLine}
 use Rattle.lex.specs.Pieces.{Cut}
 
--- how many bytes the character at the front has
+-- the length in bytes of the character at the front
 abbrev pub character_len : List ℕ → ℕ
 character_len [] = 0
 character_len (b ∷ rest) = 1 + prefix_len is_continuation rest
 
--- what is wrong at the offset
+-- the fault at the offset
 pub data FaultAt (text : List ℕ) (at : ℕ) : LexFault → Type 0 where
   strange : at < length text → HasNoShape (drop at text) →
       FaultAt text at (fault.BadCharacter (record { start = at; «end» = at + character_len (drop at text) }))
@@ -35,7 +35,7 @@ pub data FaultAt (text : List ℕ) (at : ℕ) : LexFault → Type 0 where
       FirstOnLine (take at text) → ¬ (IsInclude (take len (drop at text))) →
       FaultAt text at (fault.Directive (record { start = at; «end» = at + 1 }))
 
--- the text is cut up to an offset at which this is wrong
+-- the text is cut up to an offset that has this fault
 pub record IsFirst (text : List ℕ) (f : LexFault) : Type 0 where
   pub short : length text ≤ MOST_BYTES
   pub at : ℕ
@@ -43,7 +43,7 @@ pub record IsFirst (text : List ℕ) (f : LexFault) : Type 0 where
   pub cut : Cut text at tokens
   pub wrong : FaultAt text at f
 
--- the fault that the text has; of memory nothing is said
+-- the fault that the text has; nothing is claimed on allocation failure
 abbrev pub IsFault : List ℕ → LexFault → Type 0
 IsFault text fault.OutOfMemory = Unit {0}
 IsFault text fault.FileTooLong = MOST_BYTES < length text
@@ -53,7 +53,7 @@ IsFault text (fault.OpenComment s) = IsFirst text (fault.OpenComment s)
 IsFault text (fault.BadString s) = IsFirst text (fault.BadString s)
 IsFault text (fault.Directive s) = IsFirst text (fault.Directive s)
 
--- ---- a fault's number and place
+-- ---- a fault's number and span
 
 abbrev pub number_of : LexFault → ℕ
 number_of fault.OutOfMemory = 0

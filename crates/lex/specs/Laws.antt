@@ -1,4 +1,4 @@
--- How the tokens of a text lie in it.
+-- The positions of a text's tokens.
 use Rattle.std.specs.Prelude.{ℕ, ◌-◌, ◌<◌, ◌≤◌, List, [], ◌∷◌, take, drop}
 use Rattle.lex.specs.declared.token.Span.{Span}
 use Rattle.lex.specs.Tokens.{Tok}
@@ -8,8 +8,8 @@ use Rattle.lex.specs.Pieces.{Says}
 abbrev pub slice : List ℕ → Span → List ℕ
 slice text s = take (s.«end» - s.start) (drop s.start text)
 
--- the tokens lie between two offsets in their order, none empty and none over another, and each says what the bytes of
--- its span mean
+-- the tokens are in order between two offsets, none empty and none overlapping, and each has the kind of the bytes of
+-- its span
 abbrev pub Lie : List ℕ → ℕ → ℕ → List Tok → Type 0
 Lie text from to [] = from ≤ to
 Lie text from to (t ∷ ts) =

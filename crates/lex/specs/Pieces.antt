@@ -1,4 +1,4 @@
--- How a text is cut into tokens: at each offset the longest piece that has a shape, and what it says. The shapes are
+-- How a text is cut into tokens: at each offset the longest piece that has a shape, and its kind. The shapes are
 -- those of C11 6.4, as far as this language has them.
 use Rattle.std.specs.Prelude.{◌≡◌, ◌≢◌, ℕ, ◌+◌, ◌-◌, ◌*◌, ◌^◌, ◌<◌, ◌≤◌, Bool, true, false, ◌⊎◌, nat_lt, if◌then◌else◌}
 use Rattle.std.specs.Prelude.{List, [], ◌∷◌, ◌++◌, length, take, drop, slice_index, codes, Option, Some, None}
@@ -26,21 +26,21 @@ IsWhite w = (length w ≡ 1) × (is_white (slice_index w 0) ≡ true)
 abbrev pub IsWord : List ℕ → Type 0
 IsWord w = (0 < length w) × (is_letter (slice_index w 0) ≡ true) × Only is_part w
 
--- `*/` stands at k
+-- `*/` is at k
 abbrev pub ClosesComment : List ℕ → ℕ → Type 0
 ClosesComment w k = (slice_index w k ≡ 42) × (slice_index w (k + 1) ≡ 47)
 
 abbrev pub OpensComment : List ℕ → Type 0
 OpensComment w = (slice_index w 0 ≡ 47) × (slice_index w 1 ≡ 42)
 
--- from `/*` to the first `*/` behind it (C11 6.4.9)
+-- from `/*` to the first `*/` after it (C11 6.4.9)
 pub record IsComment (w : List ℕ) : Type 0 where
   pub opens : OpensComment w
   pub large : 4 ≤ length w
   pub closes : ClosesComment w (length w - 2)
   pub first : (k : ℕ) → 2 ≤ k → k + 2 < length w → ClosesComment w k → ⊥
 
--- `/*` without a `*/` behind it
+-- `/*` without a `*/` after it
 pub record IsOpen (w : List ℕ) : Type 0 where
   pub opens : OpensComment w
   pub large : 2 ≤ length w
@@ -66,14 +66,14 @@ pub record IsInclude (w : List ℕ) : Type 0 where
   pub blank : Only is_blank blanks
   pub parted : starts is_part rest ≡ false
 
--- bytes that may stand between a string's quotes
+-- bytes that may be between a string's quotes
 abbrev pub IsStringBody : List ℕ → Type 0
 IsStringBody [] = Unit {0}
 IsStringBody (a ∷ []) = is_plain a ≡ true
 IsStringBody (a ∷ b ∷ w) = ((is_plain a ≡ true) × IsStringBody (b ∷ w))
     ⊎ ((a ≡ 92) × (is_escape b ≡ true) × IsStringBody w)
 
--- a string, by what stands between its quotes (C11 6.4.5)
+-- a string, by the bytes between its quotes (C11 6.4.5)
 pub record IsString (w inner : List ℕ) : Type 0 where
   pub written : w ≡ 34 ∷ (inner ++ 34 ∷ [])
   pub inside : IsStringBody inner
@@ -90,7 +90,7 @@ is_digit_of Decimal = is_digit
 is_digit_of Octal = is_octal
 is_digit_of Hexadecimal = is_hexadecimal
 
--- what a base puts before its digits, and which digits make a constant of it
+-- the prefix of a base, and the digits of its constants
 abbrev pub IsInBase : Base → (before digits : List ℕ) → Type 0
 IsInBase Decimal before digits = (before ≡ []) × (0 < length digits) × (slice_index digits 0 ≢ 48)
 IsInBase Octal before digits = before ≡ codes "0"
@@ -100,7 +100,7 @@ IsInBase Hexadecimal before digits = ((before ≡ codes "0x") ⊎ (before ≡ co
 abbrev pub IsSuffix : List ℕ → Type 0
 IsSuffix s = (s ≡ []) ⊎ (s ≡ codes "u") ⊎ (s ≡ codes "U") ⊎ (s ≡ codes "ll") ⊎ (s ≡ codes "LL")
 
--- what a suffix asks for: one byte is that of `unsigned`, two are those of `long long`
+-- the meaning of a suffix: one byte is that of `unsigned`, two are those of `long long`
 abbrev pub suffix_of : List ℕ → Suffix
 suffix_of [] = suffix.Nothing
 suffix_of (b ∷ []) = suffix.Unsigned
@@ -117,7 +117,7 @@ pub record Constant (w : List ℕ) : Type 0 where
   pub all : Only (is_digit_of base) digits
   pub ended : IsSuffix suffix
 
--- the number that digits stand for, behind digits that stand for n
+-- the number that digits denote, after digits that denote n
 abbrev pub value_from : ℕ → ℕ → List ℕ → ℕ
 value_from r n [] = n
 value_from r n (d ∷ ds) = value_from r (n * r + digit_value d) ds
@@ -151,13 +151,13 @@ first_holding n (t ∷ ts) = if nat_lt n (limit t) then Some t else first_holdin
 abbrev pub type_of : (is_decimal : Bool) → Suffix → ℕ → Option Scalar
 type_of is_decimal s n = first_holding n (candidates is_decimal s)
 
--- the constant's type, where it has one
+-- the constant's type, if it has one
 abbrev pub constant_type : {w : List ℕ} → Constant w → Option Scalar
 constant_type c = type_of (is_decimal c.base) (suffix_of c.suffix) (value c)
 
--- ---- the longest piece, and what it says
+-- ---- the longest piece, and its kind
 
--- bytes that have the shape of a piece; a comment without its end, a lone quote and a line that begins with `#` have
+-- bytes that have the shape of a piece; an unterminated comment, a lone quote and a line that begins with `#` have
 -- one too
 pub data Shape (w : List ℕ) : Type 0 where
   white : IsWhite w → Shape w
@@ -171,30 +171,30 @@ pub data Shape (w : List ℕ) : Type 0 where
   quote : w ≡ codes "\"" → Shape w
   fixed : (m : Fixed) → w ≡ spelling m → Shape w
 
--- the first len bytes have a shape, and no more bytes at the front have one
+-- the longest prefix with a shape has len bytes
 pub record Longest (rest : List ℕ) (len : ℕ) : Type 0 where
   pub within : len ≤ length rest
   pub shaped : Shape (take len rest)
   pub longest : (n : ℕ) → n ≤ length rest → Shape (take n rest) → n ≤ len
 
--- no bytes at the front have a shape
+-- no prefix has a shape
 abbrev pub HasNoShape : List ℕ → Type 0
 HasNoShape rest = (n : ℕ) → n ≤ length rest → Shape (take n rest) → ⊥
 
--- each byte before the offset that no LF parts from it is a space or a tab
+-- each byte on the line before the offset is a space or a tab
 abbrev pub FirstOnLine : List ℕ → Type 0
 FirstOnLine before =
     (k : ℕ) → k < length before → ((j : ℕ) → k ≤ j → j < length before → slice_index before j ≢ 10) →
     is_blank (slice_index before k) ≡ true
 
--- what stands between tokens: white space, comments, and a line with `#include`
+-- the separators of tokens: white space, comments, and a line with `#include`
 pub data Gap (before w : List ℕ) : Type 0 where
   white : IsWhite w → Gap before w
   comment : IsComment w → Gap before w
   line : IsLine w → Gap before w
   include : IsDirective w → FirstOnLine before → IsInclude w → Gap before w
 
--- what a piece says
+-- the kind of a piece
 pub data Says (w : List ℕ) : Terminal → Type 0 where
   name : IsWord w → ((m : Fixed) → w ≢ spelling m) → ¬ (Reserved w) → Says w (tokens.name w)
   reserved : Reserved w → Says w tokens.reserved
@@ -202,7 +202,7 @@ pub data Says (w : List ℕ) : Terminal → Type 0 where
   constant : (c : Constant w) (t : Scalar) → constant_type c ≡ Some t → Says w (tokens.constant (value c) t)
   string : (inner : List ℕ) → IsString w inner → Says w (tokens.string_literal inner)
 
--- what may stand directly behind a token
+-- the bytes that may directly follow a token
 abbrev pub Parted : Terminal → List ℕ → Type 0
 Parted (tokens.name w) after = Unit {0}
 Parted (tokens.constant n t) after = starts is_glue after ≡ false
@@ -210,7 +210,7 @@ Parted (tokens.string_literal w) after = Unit {0}
 Parted (tokens.fixed m) after = Unit {0}
 Parted tokens.reserved after = Unit {0}
 
--- the len bytes at the offset are no part of a token
+-- the len bytes at the offset belong to no token
 pub record IsGap (text : List ℕ) (at len : ℕ) : Type 0 where
   pub front : Longest (drop at text) len
   pub gap : Gap (take at text) (take len (drop at text))

@@ -1,4 +1,4 @@
--- How tokens with one spelling are written, and which words are reserved.
+-- The spelling of tokens with one spelling, and the reserved words.
 use Rattle.std.specs.Prelude.{ℕ, List, ◌≡◌, codes}
 use Rattle.lex.specs.declared.token.Fixed.{Fixed}
 use Rattle.lex.specs.declared.token.Fixed.TheVariants.{Keyword, Punctuator}
@@ -69,7 +69,7 @@ spelling (Punctuator punct.Percent) = codes "%"
 spelling (Punctuator punct.Not) = codes "!"
 spelling (Punctuator punct.Complement) = codes "~"
 
--- the words that C keeps for itself and that this language does not use
+-- the words that C reserves and that this language does not use
 pub data Reserved (w : List ℕ) : Type 0 where
   is_auto : w ≡ codes "auto" → Reserved w
   is_char : w ≡ codes "char" → Reserved w

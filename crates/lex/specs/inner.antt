@@ -1,4 +1,4 @@
--- what one step of the lexer answers
+-- the result of one step of the lexer
 pub mod Answers
 -- a constant by its parts, as it is read
 pub mod Constants

@@ -1,4 +1,4 @@
-//! The classes of bytes, and how many of a class stand at the front of a text.
+//! The classes of bytes, and how many bytes of a class are at the front of a text.
 
 ghost use Rattle.std.specs.Prelude.{◌≡◌, ◌<◌, ◌≤◌, ◌^◌, length};
 ghost use Rattle.std.specs.List.{prefix_len};
@@ -12,7 +12,7 @@ pub(crate) fn is_white(b: u8) -> bool
     b == b' ' || (b'\t' <= b && b <= b'\r')
 }
 
-/// What may stand before a directive on its line: space or tab.
+/// A byte that may precede a directive on its line: space or tab.
 pub(crate) fn is_blank(b: u8) -> bool
     ensures { result ≡ spec.is_blank b }
 {
@@ -47,28 +47,28 @@ pub(crate) fn is_letter(b: u8) -> bool
     (b'a' <= b && b <= b'z') || (b'A' <= b && b <= b'Z') || b == b'_'
 }
 
-/// What a word goes on with: nondigit or digit.
+/// A byte that continues a word: nondigit or digit.
 pub(crate) fn is_part(b: u8) -> bool
     ensures { result ≡ spec.is_part b }
 {
     is_letter(b) || is_digit(b)
 }
 
-/// A byte that stands for itself in a string: printable, but no quote and no backslash.
+/// A byte that denotes itself in a string: printable, but no quote and no backslash.
 pub(crate) fn is_plain(b: u8) -> bool
     ensures { result ≡ spec.is_plain b }
 {
     b' ' <= b && b <= b'~' && b != b'"' && b != b'\\'
 }
 
-/// What may follow a backslash in a string.
+/// A byte that may follow a backslash in a string.
 pub(crate) fn is_escape(b: u8) -> bool
     ensures { result ≡ spec.is_escape b }
 {
     b == b'n' || b == b't' || b == b'\\' || b == b'"'
 }
 
-/// A byte of a character that is not its first (UTF-8).
+/// A continuation byte of a character (UTF-8).
 fn is_continuation(b: u8) -> bool
     ensures { result ≡ spec.is_continuation b }
 {
@@ -82,7 +82,7 @@ fn is_in_line(b: u8) -> bool
     b != b'\n'
 }
 
-/// Whether a constant can't end before this: a letter, a digit, `_` or `.`.
+/// Whether the front can't follow a constant: a letter, a digit, `_` or `.`.
 pub(crate) fn is_glued(rest: &[u8]) -> bool
     ensures { result ≡ spec.starts spec.is_glue rest.now }
 {
@@ -92,7 +92,7 @@ pub(crate) fn is_glued(rest: &[u8]) -> bool
     }
 }
 
-/// Whether a word that ends here would go on.
+/// Whether the front continues a word.
 pub(crate) fn starts_part(rest: &[u8]) -> bool
     ensures { result ≡ spec.starts spec.is_part rest.now }
 {
@@ -102,7 +102,7 @@ pub(crate) fn starts_part(rest: &[u8]) -> bool
     }
 }
 
-/// How many bytes at the front go on with a word.
+/// How many bytes at the front continue a word.
 pub(crate) fn word_len(rest: &[u8]) -> usize
     ensures value { result ≡ prefix_len spec.is_part rest.now }
     ensures within { result ≤ length rest.now }
@@ -110,7 +110,7 @@ pub(crate) fn word_len(rest: &[u8]) -> usize
     rest.iter().take_while(|b| is_part(**b)).count()
 }
 
-/// How many bytes at the front stand before an LF.
+/// How many bytes at the front precede an LF.
 pub(crate) fn line_len(rest: &[u8]) -> usize
     ensures value { result ≡ prefix_len spec.in_line rest.now }
     ensures within { result ≤ length rest.now }
@@ -118,7 +118,7 @@ pub(crate) fn line_len(rest: &[u8]) -> usize
     rest.iter().take_while(|b| is_in_line(**b)).count()
 }
 
-/// How many spaces and tabs stand at the front.
+/// How many spaces and tabs are at the front.
 pub(crate) fn blanks_len(rest: &[u8]) -> usize
     ensures value { result ≡ prefix_len spec.is_blank rest.now }
     ensures within { result ≤ length rest.now }
@@ -126,7 +126,7 @@ pub(crate) fn blanks_len(rest: &[u8]) -> usize
     rest.iter().take_while(|b| is_blank(**b)).count()
 }
 
-/// How many bytes at the front belong to a character before them.
+/// How many continuation bytes are at the front.
 fn continuations_len(rest: &[u8]) -> usize
     ensures value { result ≡ prefix_len spec.is_continuation rest.now }
     ensures within { result ≤ length rest.now }
@@ -134,7 +134,7 @@ fn continuations_len(rest: &[u8]) -> usize
     rest.iter().take_while(|b| is_continuation(**b)).count()
 }
 
-/// How many bytes the character at the front has.
+/// The length in bytes of the character at the front.
 pub(crate) fn character_len(rest: &[u8]) -> usize
     requires { length rest.now < 2 ^ 62 }
     ensures value { result ≡ faults.character_len rest.now }

@@ -10,7 +10,7 @@ use crate::bytes::{blanks_len, is_blank, line_len, starts_part};
 use crate::fault::LexFault;
 use crate::token::{Kind, Span};
 
-/// Where the first `*/` from the third byte on stands.
+/// The index of the first `*/` from the third byte on.
 fn close(rest: &[u8]) -> Option<usize>
     requires { length rest.now < 2 ^ 62 }
     ensures { MatchOption result ((k : ℕ) → 2 ≤ k → k + 2 ≤ length rest.now → ClosesComment rest.now k → ⊥)
@@ -27,7 +27,7 @@ fn close(rest: &[u8]) -> Option<usize>
     None
 }
 
-/// The comment that `/*` opens at the offset: up to the first `*/` behind it (C11 6.4.9).
+/// The comment that `/*` opens at the offset: up to the first `*/` after it (C11 6.4.9).
 pub(crate) fn comment<'a>(text: &'a str, at: usize) -> Result<(Option<Kind<'a>>, usize), LexFault>
     requires within { at + 1 < length text.now }
     requires fits { length text.now < 2 ^ 62 }
@@ -58,7 +58,7 @@ pub(crate) fn line_comment<'a>(
     Ok((None, line_len(rest)))
 }
 
-/// Whether only spaces and tabs stand behind the last LF.
+/// Whether only spaces and tabs follow the last LF.
 fn is_first_on_line(before: &[u8]) -> bool
     ensures { MatchBool result (FirstOnLine before.now) (FirstOnLine before.now → ⊥) }
 {
@@ -75,7 +75,7 @@ fn is_first_on_line(before: &[u8]) -> bool
     true
 }
 
-/// What stands behind `include`, where the text begins with it.
+/// The rest after `include`, if the text begins with it.
 fn after_include(word: &[u8]) -> Option<&[u8]>
     ensures { MatchOption result ((more : List ℕ) → word.now ≢ codes "include" ++ more)
         (λ rest. word.now ≡ codes "include" ++ rest.now) }
@@ -86,7 +86,7 @@ fn after_include(word: &[u8]) -> Option<&[u8]>
     }
 }
 
-/// Whether `include` stands behind the `#` and its spaces and tabs, as a word.
+/// Whether `include` follows the `#` and its spaces and tabs, as a word.
 fn is_include(line: &[u8]) -> bool
     requires some { 0 < length line.now }
     requires begins { slice_index line.now 0 ≡ 35 }

@@ -12,7 +12,7 @@ use crate::bytes::{is_digit, is_glued, is_hexadecimal, is_octal};
 use crate::fault::LexFault;
 use crate::token::{Kind, Scalar, Span};
 
-/// How a constant is written.
+/// The base of a constant.
 #[derive(Clone, Copy)]
 pub(crate) enum Base {
     Decimal,
@@ -33,7 +33,7 @@ fn base_at(rest: &[u8]) -> Base
     }
 }
 
-/// How many bytes a base puts before its digits.
+/// The length in bytes of a base's prefix.
 fn before_len(base: Base) -> usize
     ensures { result ≡ before_len base }
 {
@@ -44,7 +44,7 @@ fn before_len(base: Base) -> usize
     }
 }
 
-/// What each digit counts for, more than the one behind it.
+/// The radix of the base.
 fn radix(base: Base) -> u64
     ensures { result ≡ spec.radix base }
 {
@@ -66,7 +66,7 @@ fn is_digit_of(base: Base, b: u8) -> bool
     }
 }
 
-/// How many digits of the base stand at the front.
+/// How many digits of the base are at the front.
 fn digits_len(base: Base, rest: &[u8]) -> usize
     ensures value { result ≡ prefix_len (spec.is_digit_of base) rest.now }
     ensures within { result ≤ length rest.now }
@@ -74,7 +74,7 @@ fn digits_len(base: Base, rest: &[u8]) -> usize
     rest.iter().take_while(|b| is_digit_of(base, **b)).count()
 }
 
-/// What a suffix asks for.
+/// The meaning of a suffix.
 #[derive(Clone, Copy)]
 pub(crate) enum Suffix {
     Nothing,
@@ -95,7 +95,7 @@ fn suffix_at(rest: &[u8]) -> Suffix
     }
 }
 
-/// How many bytes a suffix has.
+/// The length of a suffix in bytes.
 fn suffix_size(suffix: Suffix) -> usize
     ensures { result ≡ suffix_size suffix }
 {
@@ -106,7 +106,7 @@ fn suffix_size(suffix: Suffix) -> usize
     }
 }
 
-/// What a digit counts for.
+/// The value of a digit.
 fn digit_value(b: u8) -> u64
     requires { bytes.is_hexadecimal b ≡ true }
     ensures value { result ≡ digit_value b }
@@ -121,7 +121,7 @@ fn digit_value(b: u8) -> u64
     }
 }
 
-/// The digits' number, where it is below 2^63.
+/// The digits' number, if it is below 2^63.
 fn number(base: Base, digits: &[u8]) -> Option<u64>
     requires { bytes.Only (spec.is_digit_of base) digits.now }
     ensures { GivesNumber result (spec.value_from (spec.radix base) 0 digits.now) }
@@ -158,7 +158,7 @@ fn type_of(is_decimal: bool, suffix: Suffix, value: u64) -> Option<Scalar>
     }
 }
 
-/// The value and the type of these digits, where there is a type that holds it.
+/// The value and the type of these digits, if there is a type that holds it.
 fn typed_value(base: Base, suffix: Suffix, digits: &[u8]) -> Option<(u64, Scalar)>
     requires { bytes.Only (spec.is_digit_of base) digits.now }
     ensures { GivesTyped result base suffix (spec.value_from (spec.radix base) 0 digits.now) }

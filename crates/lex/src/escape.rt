@@ -1,11 +1,11 @@
-//! What the escapes of a string stand for.
+//! The characters that the escapes of a string denote.
 
 ghost use Rattle.std.specs.Prelude.{◌≡◌, IfOk, string_bytes};
 ghost use Rattle.lex.specs.Tokens as spec;
 
 use std::alloc::{AllocError, Allocator};
 
-/// The character that a backslash and this one stand for.
+/// The character that a backslash and this one denote.
 fn stands_for(c: char) -> char
     ensures { result ≡ spec.stands_for c }
 {
@@ -16,7 +16,7 @@ fn stands_for(c: char) -> char
     }
 }
 
-/// The text that a string stands for, of what is written between its quotes: each escape is one character. Takes
+/// The text that a string denotes, from its spelling between the quotes: each escape is one character. Allocates
 /// memory for its bytes.
 pub fn unescape<A: Allocator + Copy>(alloc: A, written: &str) -> Result<String<A>, AllocError>
     ensures { IfOk result (λ s. string_bytes s ≡ spec.string_value written.now) }

@@ -8,23 +8,23 @@ use crate::token::Span;
 use std::alloc::{AllocError, AllocFailed};
 use thiserror::Error;
 
-/// Why a text has no tokens: its first fault, in the order of the places.
+/// Why a text has no tokens: its first fault, in the order of the text.
 #[derive(Clone, Copy, Debug, Error)]
 pub enum LexFault {
-    /// A growth of the list of tokens was refused. It says nothing of the text.
+    /// An allocation failure for the list of tokens, which says nothing of the text.
     #[error("out of memory")]
     OutOfMemory,
-    /// A character that no token begins with, a `#` behind something else on its line, or a letter, a digit, `_` or
-    /// `.` directly behind a constant. The span is the character.
+    /// A character that no token begins with, a `#` that is not first on its line, or a letter, a digit, `_` or
+    /// `.` that directly follows a constant. The span is the character.
     #[error("bad character")]
     BadCharacter(Span),
     /// The constant has no type that can hold it.
     #[error("constant too large")]
     ConstantTooLarge(Span),
-    /// A comment without its end. The span goes from `/*` to the text's end.
+    /// An unterminated comment. The span goes from `/*` to the text's end.
     #[error("open comment")]
     OpenComment(Span),
-    /// A string that is not closed on its line, or with a character or an escape that may not stand in it. The span is
+    /// A string that is not closed on its line, or that contains an invalid character or escape. The span is
     /// its opening quote.
     #[error("bad string")]
     BadString(Span),
@@ -52,7 +52,7 @@ impl LexFault {
         }
     }
 
-    /// Where the fault stands in the text. Want of memory stands nowhere.
+    /// The span of the fault in the text. An allocation failure has none.
     pub fn span(&self) -> Option<Span>
         ensures { result ≡ span_of self.now }
     {

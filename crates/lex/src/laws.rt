@@ -1,4 +1,4 @@
-//! What follows from the definitions of tokens and faults, stated as functions that do nothing.
+//! Consequences of the definitions of tokens and faults, stated as functions without code.
 
 ghost use Rattle.std.specs.Prelude.{◌≡◌, ℕ, List, length};
 ghost use Rattle.lex.specs.declared.fault.LexFault.{LexFault};
@@ -7,8 +7,8 @@ ghost use Rattle.lex.specs.Faults.{IsFirst};
 ghost use Rattle.lex.specs.Pieces.{IsLexed};
 ghost use Rattle.lex.specs.Laws.{Lie};
 
-/// The tokens of a text stand in it in their order, none is empty and none lies over another, and each says what the
-/// bytes of its own span mean.
+/// The tokens of a text are in order, none is empty and no two overlap, and each has the kind of the bytes of its
+/// span.
 pub fn tokens_lie_in_order()
     ensures { (text : List ℕ) (ts : List Tok) → IsLexed text ts → Lie text 0 (length text) ts }
 {}

@@ -17,10 +17,10 @@ use crate::token::{Kind, Span, Token};
 use crate::word::word;
 use std::alloc::Allocator;
 
-/// The most bytes that a text may have.
+/// The maximum number of bytes of a text.
 pub const MOST_BYTES: usize = 1_048_576;
 
-/// What begins with a slash: a comment or a punctuator.
+/// A comment or a punctuator that begins with a slash.
 fn slash<'a>(text: &'a str, at: usize) -> Result<(Option<Kind<'a>>, usize), LexFault>
     requires within { at < length text.now }
     requires fits { length text.now < 2 ^ 62 }
@@ -37,7 +37,7 @@ fn slash<'a>(text: &'a str, at: usize) -> Result<(Option<Kind<'a>>, usize), LexF
     punctuator(text, at)
 }
 
-/// The piece at the offset: a token's kind, or none for what stands between tokens, and its length.
+/// The piece at the offset: a token's kind, or none for what separates tokens, and its length.
 fn next<'a>(text: &'a str, at: usize) -> Result<(Option<Kind<'a>>, usize), LexFault>
     requires within { at < length text.now }
     requires fits { length text.now < 2 ^ 62 }
@@ -62,7 +62,7 @@ fn next<'a>(text: &'a str, at: usize) -> Result<(Option<Kind<'a>>, usize), LexFa
 }
 
 /// The tokens of a text in their order, without white space, comments and lines of `#include`; or its first fault, in
-/// the order of the places. A text of more than 1,048,576 bytes is refused before anything else is looked at.
+/// the order of the text. A text of more than 1,048,576 bytes is refused before anything else is checked.
 pub fn lex<'a, A: Allocator + Copy>(alloc: A, text: &'a str) -> Result<Vec<Token<'a>, A>, LexFault>
     ensures ok { IfOk result (λ v. IsLexed text.now (toks v.items)) }
     ensures err { IfErr result (λ f. IsFault text.now f) }

@@ -5,7 +5,7 @@ ghost use Rattle.std.specs.List.{prefix_len};
 ghost use Rattle.lex.specs.Places.{line_of, column_of};
 ghost use Rattle.lex.specs.Bytes.{in_line};
 
-/// How many bytes stand behind the last LF.
+/// How many bytes follow the last LF.
 fn behind_line_feed(before: &[u8]) -> usize
     ensures value { result ≡ prefix_len in_line (reverse before.now) }
     ensures within { result ≤ length before.now }

@@ -95,7 +95,7 @@ fn punctuator_at(rest: &[u8]) -> Option<(Fixed, usize)>
     }
 }
 
-/// The punctuator at the offset, where no other piece begins.
+/// The punctuator at the offset, if no other piece begins there.
 pub(crate) fn punctuator<'a>(
     text: &'a str,
     at: usize,

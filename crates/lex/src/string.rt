@@ -8,7 +8,7 @@ use crate::bytes::{is_escape, is_plain};
 use crate::fault::LexFault;
 use crate::token::{Kind, Span};
 
-/// How many bytes stand before the quote that closes a string, where one does.
+/// How many bytes precede the quote that closes a string, if there is one.
 fn inside_len(rest: &[u8]) -> Option<usize>
     requires { length rest.now < 2 ^ 62 }
     ensures { GivesInside rest.now result }

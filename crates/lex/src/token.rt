@@ -1,16 +1,16 @@
-//! What a text is cut into: tokens, with the bytes that each one covers.
+//! The tokens of a text, with the bytes that each one covers.
 
 ghost use Rattle.std.specs.Prelude.{◌≡◌};
 ghost use Rattle.lex.specs.Tokens as tokens;
 
-/// Bytes of the text, from `start` up to and without `end`, counted from 0.
+/// Bytes of the text, from `start` up to but not including `end`, counted from 0.
 #[derive(Clone, Copy, Debug, PartialEq, Eq)]
 pub struct Span {
     pub start: usize,
     pub end: usize,
 }
 
-/// The type of a number, in two's complement where it is signed (C11 6.2.5).
+/// The type of a number, in two's complement if it is signed (C11 6.2.5).
 #[derive(Clone, Copy, PartialEq, Eq)]
 pub enum Scalar {
     /// -2147483648 to 2147483647.
@@ -105,21 +105,21 @@ pub enum Fixed {
     Punctuator(Punctuator),
 }
 
-/// What a token is.
+/// The kind of a token.
 #[derive(Clone, Copy)]
 pub enum Kind<'a> {
     Name(&'a str),
     /// A whole number, by its value and its type.
     Constant(u64, Scalar),
-    /// A string literal, as it is written between its quotes: an escape stands as its two characters (C11 6.4.5).
+    /// A string literal, as it is written between its quotes: an escape is kept as its two characters (C11 6.4.5).
     StringLiteral(&'a str),
     Keyword(Keyword),
     Punctuator(Punctuator),
-    /// A reserved word of C that stands nowhere in this language's grammar.
+    /// A reserved word of C that this language's grammar does not use.
     Reserved,
 }
 
-/// What a token of one spelling is.
+/// The kind of a token with one spelling.
 pub(crate) fn kind_of<'a>(fixed: Fixed) -> Kind<'a>
     ensures { tokens.terminal result ≡ tokens.fixed fixed }
 {
@@ -129,7 +129,7 @@ pub(crate) fn kind_of<'a>(fixed: Fixed) -> Kind<'a>
     }
 }
 
-/// A token, and where it stands.
+/// A token, with its span.
 #[derive(Clone, Copy)]
 pub struct Token<'a> {
     pub kind: Kind<'a>,

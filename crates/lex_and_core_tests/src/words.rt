@@ -160,7 +160,7 @@ fn outcomes() -> &'static [Row] {
     static ROWS: [Row; 10] = [
         (
             "txc|outcomes|a.c",
-            br#"Ok(Program { file: "a.c", verbose: false, format: Plain, task: Outcomes { threads: 1, steps: 1000000, limit: 1000000, memory: 1024 } })"#,
+            br#"Ok(Program { file: "a.c", verbose: false, format: Plain, task: Outcomes { threads: 2, steps: 1000000, limit: 1000000, memory: 1024 } })"#,
         ),
         (
             "txc|outcomes|--threads=64|--steps=4294967295|--limit=4294967295|a.c|--verbose",
@@ -193,11 +193,11 @@ fn outcomes() -> &'static [Row] {
         ),
         (
             "txc|outcomes|--memory|0|a.c",
-            br#"Ok(Program { file: "a.c", verbose: false, format: Plain, task: Outcomes { threads: 1, steps: 1000000, limit: 1000000, memory: 0 } })"#,
+            br#"Ok(Program { file: "a.c", verbose: false, format: Plain, task: Outcomes { threads: 2, steps: 1000000, limit: 1000000, memory: 0 } })"#,
         ),
         (
             "txc|outcomes|--limit=4294967295|--steps=7|a.c",
-            br#"Ok(Program { file: "a.c", verbose: false, format: Plain, task: Outcomes { threads: 1, steps: 7, limit: 4294967295, memory: 1024 } })"#,
+            br#"Ok(Program { file: "a.c", verbose: false, format: Plain, task: Outcomes { threads: 2, steps: 7, limit: 4294967295, memory: 1024 } })"#,
         ),
     ];
     &ROWS
@@ -641,7 +641,7 @@ fn comparisons() -> &'static [Row] {
     static ROWS: [Row; 10] = [
         (
             "txc|outcomes|a.c|--refines|b.c",
-            br#"Ok(Compare { file: "a.c", verbose: false, format: Plain, comparison: Comparison { threads: 1, steps: 1000000, limit: 1000000, memory: 1024, against: Refined { file: "b.c" } } })"#,
+            br#"Ok(Compare { file: "a.c", verbose: false, format: Plain, comparison: Comparison { threads: 2, steps: 1000000, limit: 1000000, memory: 1024, against: Refined { file: "b.c" } } })"#,
         ),
         (
             "txc|outcomes|--expect=l|--threads=64|--steps=0|--limit=4294967295|a.c|--verbose|--format=short",
@@ -654,7 +654,7 @@ fn comparisons() -> &'static [Row] {
         ),
         (
             "txc|outcomes|a.c|--expect=-|--limit=7",
-            br#"Ok(Compare { file: "a.c", verbose: false, format: Plain, comparison: Comparison { threads: 1, steps: 1000000, limit: 7, memory: 1024, against: Expected { file: "-" } } })"#,
+            br#"Ok(Compare { file: "a.c", verbose: false, format: Plain, comparison: Comparison { threads: 2, steps: 1000000, limit: 7, memory: 1024, against: Expected { file: "-" } } })"#,
         ),
         // and not both
         (
@@ -695,7 +695,7 @@ fn questions() -> &'static [Row] {
     static ROWS: [Row; 7] = [
         (
             "txc|outcomes|a.c|--always|p",
-            br#"Ok(Ask { file: "a.c", verbose: false, format: Plain, questions: Questions { threads: 1, steps: 1000000, limit: 1000000, memory: 1024, always: Some("p"), last: None, keeps_going: false } })"#,
+            br#"Ok(Ask { file: "a.c", verbose: false, format: Plain, questions: Questions { threads: 2, steps: 1000000, limit: 1000000, memory: 1024, always: Some("p"), last: None, keeps_going: false } })"#,
         ),
         (
             "txc|outcomes|--final=p,q|--threads=3|--steps=0|--limit=7|a.c|--verbose|--format=json",
@@ -703,15 +703,15 @@ fn questions() -> &'static [Row] {
         ),
         (
             "txc|outcomes|a.c|--keep-going|--always=p",
-            br#"Ok(Ask { file: "a.c", verbose: false, format: Plain, questions: Questions { threads: 1, steps: 1000000, limit: 1000000, memory: 1024, always: Some("p"), last: None, keeps_going: true } })"#,
+            br#"Ok(Ask { file: "a.c", verbose: false, format: Plain, questions: Questions { threads: 2, steps: 1000000, limit: 1000000, memory: 1024, always: Some("p"), last: None, keeps_going: true } })"#,
         ),
         (
             "txc|outcomes|-|--final=|--always=p,p",
-            br#"Ok(Ask { file: "-", verbose: false, format: Plain, questions: Questions { threads: 1, steps: 1000000, limit: 1000000, memory: 1024, always: Some("p,p"), last: Some(""), keeps_going: false } })"#,
+            br#"Ok(Ask { file: "-", verbose: false, format: Plain, questions: Questions { threads: 2, steps: 1000000, limit: 1000000, memory: 1024, always: Some("p,p"), last: Some(""), keeps_going: false } })"#,
         ),
         (
             "txc|outcomes|a.c|--limit=9",
-            br#"Ok(Program { file: "a.c", verbose: false, format: Plain, task: Outcomes { threads: 1, steps: 1000000, limit: 9, memory: 1024 } })"#,
+            br#"Ok(Program { file: "a.c", verbose: false, format: Plain, task: Outcomes { threads: 2, steps: 1000000, limit: 9, memory: 1024 } })"#,
         ),
         (
             "txc|outcomes|a.c|--always=p|--threads=65",
@@ -825,7 +825,7 @@ fn told_ranges() -> &'static [(&'static str, &'static str)] {
         ),
         ("txc|source|--help", "1 to 64 [default: 1]"),
         ("txc|source|--help", "0 to 1000000 [default: 100000]"),
-        ("txc|outcomes|--help", "1 to 64 [default: 1]"),
+        ("txc|outcomes|--help", "1 to 64 [default: 2]"),
         (
             "txc|outcomes|--help",
             "the code after it, 0 to 4294967295 [default: 1000000]",

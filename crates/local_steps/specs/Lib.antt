@@ -2,5 +2,5 @@
 pub mod Local
 -- reads and writes of cells between local steps
 pub mod Cells
--- what only private functions and proofs speak of
+-- definitions for private functions and proofs only
 pub mod inner

@@ -1,8 +1,8 @@
 -- where local steps pause
 pub mod Paused
--- the ends of loops' turns, made at once
+-- the ends of loop iterations, executed at once
 pub mod Turns
 -- writes to cells of 32 bits
 pub mod Narrow
--- what a flow says of an instruction, and which registers an instruction names
+-- the meaning of a flow, and the registers that an instruction names
 pub mod Flows

@@ -1,4 +1,4 @@
--- The number and the place of a fault.
+-- The number and the source position of a fault.
 use Rattle.std.specs.Prelude.{ℕ, Option, None, Some}
 use Rattle.lex.specs.declared.token.Span.{Span}
 use Rattle.lower.specs.declared.fault.LowerFault.{LowerFault}

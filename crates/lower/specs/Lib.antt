@@ -1,10 +1,10 @@
--- a fault's number and place
+-- a fault's number and source position
 pub mod Answers
--- transactions that lie in too many others
+-- transactions that are nested in too many others
 pub mod Nested
--- limits of code that are passed
+-- limits of code that are exceeded
 pub mod Limits
--- why no code is given
+-- why no code is returned
 pub mod Faults
--- what only private functions and proofs speak of
+-- definitions for private functions and proofs only
 pub mod inner

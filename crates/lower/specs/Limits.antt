@@ -1,11 +1,11 @@
--- The limits of code that are passed by what is picked for a program.
+-- The limits that the code picked for a program exceeds.
 use Rattle.std.specs.Prelude.{◌≡◌, ◌<◌, ◌≤◌, ℕ, ◌∷◌, [], ◌++◌, length, Contains}
 use Rattle.syntax.specs.Tree.{Span, Function, Defines, Program}
 use Rattle.bytecode.specs.declared.limits.TheConstants.{MOST_INSTRUCTIONS, MOST_REGISTERS}
 use Rattle.bytecode.specs.Code.{FunctionCode}
 use Rattle.selection.specs.Programs.{made_for, picked_code}
 
--- the code that is picked for a function of this name has more registers than a function may have
+-- the code that is picked for a function of this name needs more registers than a function may have
 pub record NeedsTooMany (p : Program) (at : Span) : Type 0 where
   pub function : Function
   pub is_of : Contains p (Defines function)
@@ -23,8 +23,8 @@ IsTooMuch p = MOST_INSTRUCTIONS < length (picked_code p).instructions
 abbrev pub picked_for : Program → Program → ℕ
 picked_for p items = length (made_for p items).code
 
--- a code may have as many instructions as are picked for what stands before a function of this name, but not its own
--- too
+-- a code may have as many instructions as are picked for what precedes a function of this name, but not with its own
+-- added
 pub record PassesWith (p : Program) (at : Span) : Type 0 where
   pub before : Program
   pub function : Function

@@ -1,5 +1,5 @@
--- Transactions that lie in one another in a function's text, statements and expressions. At most 16 may; a call begins
--- anew.
+-- Nesting of transactions in a function's text, statements and expressions. At most 16 may nest; a call starts from 0
+-- again.
 use Rattle.std.specs.Prelude.{ℕ, zero, suc, List, [], ◌∷◌, Option, Some, None}
 use Rattle.std.specs.Option.{option_or}
 use Rattle.syntax.specs.Tree.{Span, Expr, Exprs, Element, Call, Parenthesized, Cast, Unary, Binary, Logical}
@@ -7,7 +7,7 @@ use Rattle.syntax.specs.Tree.{Conditional, InTransaction, Simple, Evaluate, Assi
 use Rattle.syntax.specs.Tree.{Start, Nothing, Declares, Does, Stmt, Stmts, Declare, Do, Block, Print, If, IfElse}
 use Rattle.syntax.specs.Tree.{While, DoWhile, For, Return, Transaction, Item, Defines, Shares, Program}
 
--- the keyword of the first transaction of an expression that lies in so many others
+-- the keyword of the first transaction of an expression that is nested in so many others
 abbrev mutual
   pub expr_too_deep : Expr → ℕ → Option Span
   expr_too_deep (Element x i at) n = expr_too_deep i n
@@ -27,7 +27,7 @@ abbrev mutual
   exprs_too_deep Exprs.[] n = None
   exprs_too_deep (Exprs.◌∷◌ e es) n = option_or (expr_too_deep e n) (exprs_too_deep es n)
 
--- the keyword of the first transaction of what may be missing that lies in so many others
+-- the keyword of the first transaction of an optional part that is nested in so many others
 abbrev pub too_deep_if_any : {A : Type 0} → (A → ℕ → Option Span) → Option A → ℕ → Option Span
 too_deep_if_any deep None n = None
 too_deep_if_any deep (Some x) n = deep x n
@@ -46,7 +46,7 @@ start_too_deep Nothing n = None
 start_too_deep (Declares d) n = declarators_too_deep d.declarators n
 start_too_deep (Does s) n = simple_too_deep s n
 
--- the keyword of the first transaction of a statement that lies in so many others, in the order of the text
+-- the keyword of the first transaction of a statement that is nested in so many others, in the order of the text
 abbrev mutual
   pub too_deep : Stmt → ℕ → Option Span
   too_deep (Declare d) n = declarators_too_deep d.declarators n
@@ -82,6 +82,6 @@ abbrev pub items_too_deep : List Item → ℕ → Option Span
 items_too_deep [] n = None
 items_too_deep (item ∷ items) n = option_or (item_too_deep item n) (items_too_deep items n)
 
--- the keyword of the first transaction of a program that lies in 16 others
+-- the keyword of the first transaction of a program that is nested in 16 others
 abbrev pub nested_too_deep : Program → Option Span
 nested_too_deep p = items_too_deep p 16

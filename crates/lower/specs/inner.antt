@@ -1,6 +1,6 @@
--- with which constants the loops of a function compute, as it is found out
+-- the constants that are operands in a function's loops, as collected so far
 pub mod Looped
 -- formats, directive by directive
 pub mod Formats
--- why no code is made of a part
+-- why a part gets no code
 pub mod Parts

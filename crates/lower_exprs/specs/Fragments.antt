@@ -1,4 +1,4 @@
--- What a call answers that adds a fragment of code behind what stands there.
+-- The results of calls that append a fragment of code.
 use Rattle.std.specs.Prelude.{◌≡◌, ℕ, List, ◌++◌, Vec, Result, OnOk, IfOk, IfErr}
 use Rattle.bytecode.specs.declared.instr.Instr.{Instr}
 use Rattle.selection.specs.declared.draft.Draft.{Draft}
@@ -13,15 +13,15 @@ use Rattle.lower_exprs.specs.declared.lists.Lists.{Lists as OwnLists}
 use Rattle.lower_exprs.specs.Limits.{NeedsMore}
 use Rattle.lower_exprs.specs.Lists.{lists_of}
 
--- instructions, the lists behind them, and what is known of their end: where a value lies, how a condition is tested,
+-- instructions, the lists after them, and what is known of their end: where a value is, how a condition is tested,
 -- or the place alone
 pub record Fragment (I E : Type 0) : Type 0 where
   pub code : List I
   pub lists : Lists
   pub end : E
 
--- a fragment stands behind the old instructions, or it needs more registers than there are where that is why there is
--- none
+-- a fragment is appended to the old instructions, or it needs more registers than there are, if that is the reason for
+-- having none
 pub record Adds {I E : Type 0} (s : Fragment I E) (old new : List I) (l : Lists) (r : Result E LowerFailure) :
     Type 0 where
   pub code : OnOk r (new ≡ old ++ s.code)
@@ -29,7 +29,7 @@ pub record Adds {I E : Type 0} (s : Fragment I E) (old new : List I) (l : Lists)
   pub end : IfOk r (λ e. e ≡ s.end)
   pub fails : IfErr r (λ why. NeedsMore why s.lists.registers)
 
--- what is picked for an expression, a condition, an assignment or a statement, and several values, as a fragment
+-- the fragment picked for an expression, for a condition, for an assignment or a statement, and for several values
 abbrev pub of_value : Emitted → Fragment Instr ValueRegister
 of_value e = record { code = e.code; lists = e.lists; end = e.location }
 

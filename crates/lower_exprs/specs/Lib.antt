@@ -1,9 +1,9 @@
--- what the values that make code hold: the lists of a code, a program, and the locals that are known
+-- the contents of the values that code generation uses: the lists of a code, a program, and the known locals
 pub mod Lists
 pub mod Views
--- what a failure says of lists of code
+-- what a failure implies of lists of code
 pub mod Limits
--- what a call answers that adds code
+-- the results of calls that append code
 pub mod Fragments
--- what only private functions and proofs speak of
+-- definitions for private functions and proofs only
 pub mod inner

@@ -1,4 +1,4 @@
--- What the lists of a code hold, as it is made.
+-- The contents of a code's lists while it is generated.
 use Rattle.selection.specs.Lists.{Lists}
 use Rattle.lower_exprs.specs.declared.lists.Lists.{Lists as OwnLists}
 

@@ -1,4 +1,4 @@
--- What values of the program's own types hold.
+-- The contents of values of the program's own types.
 use Rattle.std.specs.Prelude.{ℕ, List, map}
 use Rattle.lex.specs.declared.token.Scalar.{Scalar}
 use Rattle.name_tables.specs.Known.{locals_in}

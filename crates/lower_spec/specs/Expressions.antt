@@ -1,6 +1,6 @@
--- Which instructions stand for an expression: by cases on the tree. A code may choose its registers: below `free` stand
--- the locals and what is still needed, and what an expression writes lies at or above it, or is the value's home.
--- Behind all registers that are written may lie constants.
+-- Which instructions implement an expression, by cases on the tree. A code may choose its registers: those below `free`
+-- hold the locals and values still needed, and an expression writes only registers from `free` on, or its value's home.
+-- After all written registers may come constants.
 use Rattle.std.specs.Prelude.{◌≡◌, ◌⊎◌, ℕ, suc, ◌<◌, ◌≤◌, ◌+◌, pos, List, [], ◌∷◌, ◌++◌, length, map, Option, Some}
 use Rattle.std.specs.Prelude.{None, is_some, unwrap_or, slice_get, if◌then◌else◌}
 use Rattle.lex.specs.declared.token.Span.{Span}
@@ -18,52 +18,52 @@ use Rattle.syntax.specs.Types.{type_of, running_scope}
 use Rattle.syntax.specs.Laws.{shape}
 use Rattle.bytecode.specs.Code.{Instr, Code, FunctionCode, computing}
 
--- the locals known at a point, by name and type; their words say nothing
+-- the locals known at a point, by name and type; their words are irrelevant
 abbrev pub LocalScope : Type 0
 LocalScope = List Local
 
 abbrev pub IsLike : LocalScope → List Local → Type 0
 IsLike scope ls = map shape ls ≡ map shape scope
 
--- an instruction stands at a place
+-- an instruction is at a place
 abbrev pub InstructionAt : Code → ℕ → Instr → Type 0
 InstructionAt code q i = slice_get code.instructions q ≡ Some i
 
--- one place is another, or jumps there
+-- one place is another, or has a jump to it
 abbrev pub LeadsTo : Code → (q to : ℕ) → Type 0
 LeadsTo code q to = (q ≡ to) ⊎ InstructionAt code q (Instr.Jump to)
 
--- code from one place to another that gives a value of a type in a register, where those below `free` stay as they are
+-- code from one place to another that leaves a value of a type in a register and preserves the registers below `free`
 abbrev pub Coded : Type 1
 Coded = (from to free r : ℕ) → Scalar → Type 0
 
--- code that gives a value which is due in a type, and has it in the register: the other type is its own
+-- code that yields a value due in one type, and leaves it in the register; the other type is its own
 abbrev pub Due : Type 1
 Due = (due : Scalar) → Coded
 
--- code from a place that leads to one place where a condition holds, and to another where it does not
+-- code from a place that leads to one place if a condition holds, and to another if it does not
 abbrev pub Branching : Type 1
 Branching = (from true_exit false_exit free : ℕ) → Type 0
 
--- a register that a value may come to: a free one, or its home, the register of the local that is to take it
+-- a register that a value may be in: a free one, or its home, the register of the local that is to receive it
 abbrev pub MayTake : Option ℕ → (free r : ℕ) → Type 0
 MayTake None free r = free ≤ r
 MayTake (Some home) free r = (free ≤ r) ⊎ (r ≡ home)
 
--- the instruction of a complement: of narrow types it is that of unsigned operands
+-- the instruction of a complement: for narrow types it is that of unsigned operands
 abbrev pub complementing : Scalar → (d a : ℕ) → Instr
 complementing LongLong d a = Instr.Complement LongLong d a
 complementing t d a = Instr.Complement Unsigned d a
 
--- the instruction of a conversion, where values may have other words in the new type: an int's sign is extended, and of
--- a long long the lower half is taken
+-- the instruction of a conversion, if values may have other words in the new type: an int is sign-extended, and a
+-- long long is truncated to its lower half
 abbrev pub converting : (s u : Scalar) → Option (ℕ → ℕ → Instr)
 converting Int LongLong = Some Instr.Extend
 converting LongLong Int = Some Instr.Low
 converting LongLong Unsigned = Some Instr.Low
 converting s u = None
 
--- the instruction of a conversion on the way to a cell, where a write takes the lower half by itself
+-- the instruction of a conversion on the way to a cell; a write truncates to the lower half by itself
 abbrev pub widening : (s u : Scalar) → Option (ℕ → ℕ → Instr)
 widening Int LongLong = Some Instr.Extend
 widening s u = None
@@ -76,7 +76,7 @@ abbrev pub types_left : List Scalar → List Scalar
 types_left [] = []
 types_left (u ∷ us) = us
 
--- what a call takes over: the arguments that a parameter's name binds, and then the others
+-- the argument order of a call: first the arguments that a parameter's name binds, and then the others
 abbrev pub named_ones : List Parameter → List ℕ → List ℕ
 named_ones (q ∷ qs) (r ∷ rs) = if is_some q.name then r ∷ named_ones qs rs else named_ones qs rs
 named_ones qs rs = []
@@ -88,18 +88,18 @@ nameless_ones qs rs = []
 abbrev pub argument_order : List Parameter → List ℕ → List ℕ
 argument_order qs rs = named_ones qs rs ++ nameless_ones qs rs
 
--- how a function uses its registers: those below `writable` are its locals' and its values', and those from there on
+-- how a function uses its registers: those below `writable` hold its locals and values, and those from there on
 -- hold these words from its beginning to its end
 pub record Layout : Type 0 where
   pub writable : ℕ
   pub constants : List ℕ
 
--- a constant 0, with which a comparison asks whether the other side holds
+-- a constant 0, against which a comparison tests the other side
 abbrev pub IsZeroConstant : Expr → Type 0
 IsZeroConstant e = (t : Scalar) × (at : Span) × (e ≡ Constant 0 t at)
 
 module _ (code : Code) (layout : Layout) where
-  -- one instruction that gives a value
+  -- one instruction that yields a value
   pub record GivenBy (home : Option ℕ) (i : Instr) (u : Scalar) (from to free r : ℕ) (t : Scalar) : Type 0 where
     pub to_is : to ≡ suc from
     pub takes : MayTake home free r
@@ -107,7 +107,7 @@ module _ (code : Code) (layout : Layout) where
     pub type_is : t ≡ u
     pub instr : InstructionAt code from i
 
-  -- a value in the register ra comes to a register by a conversion: it lies there, or one instruction makes it
+  -- a value in the register ra comes to a register by a conversion: it is there already, or one instruction computes it
   abbrev pub ConvertedBy : Option (ℕ → ℕ → Instr) → Option ℕ → Scalar → (ra from to free r : ℕ) → Type 0
   ConvertedBy None home u ra from to free r = (to ≡ from) × (r ≡ ra)
   ConvertedBy (Some i) home u ra from to free r = GivenBy home (i r ra) u from to free r u
@@ -123,24 +123,24 @@ module _ (code : Code) (layout : Layout) where
     pub computes : e from mid free ra t
     pub converts : Converts home t u ra mid to free r
 
-  -- an expression's value in the type that is due: a constant is set as what it is converted to
+  -- an expression's value in the type that is due: a constant is set after conversion
   abbrev pub DueCode : Option ℕ → Expr → Coded → Due
   DueCode home (Constant n s at) e u from to free r t =
       (t ≡ s) × GivenBy home (Instr.Constant r (constant_in u s n)) u from to free r u
   DueCode home e' e u from to free r t = ConvertedCode home e u from to free r t
 
-  -- an expression's value in this type, whatever its own is
+  -- an expression's value in this type, whatever its own type is
   abbrev pub TypedCode : Option ℕ → Expr → Coded → (u : Scalar) → (from to free r : ℕ) → Type 0
   TypedCode home e' e u from to free r = (t : Scalar) × DueCode home e' e u from to free r t
 
-  -- a local's value lies in its register
+  -- a local's value is in its register
   pub record LocalIs (locals : ℕ) (l : ℕ × Scalar) (from to r : ℕ) (t : Scalar) : Type 0 where
     pub known : l.0 < locals
     pub to_is : to ≡ from
     pub register : r ≡ l.0
     pub type_is : t ≡ l.1
 
-  -- a word lies in a register from the function's beginning on
+  -- a word is in a register from the function's beginning on
   pub record IsPreloaded (w : ℕ) (u : Scalar) (from to r : ℕ) (t : Scalar) : Type 0 where
     pub number : ℕ
     pub known : slice_get layout.constants number ≡ Some w
@@ -153,7 +153,7 @@ module _ (code : Code) (layout : Layout) where
   WordCode w u from to free r =
       GivenBy None (Instr.Constant r w) u from to free r u ⊎ IsPreloaded w u from to r u
 
-  -- an operand of an operator: a constant is set, or is preloaded, as what it is converted to
+  -- an operand of an operator: a constant is set, or is preloaded, after conversion
   abbrev pub OperandCode : Expr → Coded → Due
   OperandCode (Constant n s at) e u from to free r t = (t ≡ s) × WordCode (constant_in u s n) u from to free r
   OperandCode e' e u from to free r t = ConvertedCode None e u from to free r t
@@ -214,7 +214,7 @@ module _ (code : Code) (layout : Layout) where
     pub operates : GivenBy home (computing op (operand_type op ta tb) r ra rb)
         (result_type op (operand_type op ta tb)) last to free r t
 
-  -- a value is computed and tested by a jump; where it does not jump, the code leads on
+  -- a value is computed and tested by a jump; if the jump is not taken, the code continues
   pub record ValueTested (jump : ℕ → ℕ → Instr) (value : Coded) (from there on free : ℕ) : Type 0 where
     pub mid : ℕ
     pub r : ℕ
@@ -223,7 +223,7 @@ module _ (code : Code) (layout : Layout) where
     pub jumps : InstructionAt code mid (jump r there)
     pub leads : LeadsTo code (suc mid) on
 
-  -- a condition: by its value, or as its operator has it
+  -- a condition: by its value, or by its operator
   abbrev pub Branches : Coded → Branching → Branching
   Branches value own from true_exit false_exit free =
       ValueTested Instr.JumpZero value from false_exit true_exit free
@@ -246,7 +246,7 @@ module _ (code : Code) (layout : Layout) where
       IsZeroConstant b × (((op ≡ NotEqual) × tests from true_exit false_exit free)
       ⊎ ((op ≡ Equal) × tests from false_exit true_exit free))
 
-  -- the int 1 where a condition holds, and 0 where it does not
+  -- the int 1 if a condition holds, and 0 if it does not
   pub record TruthCode (home : Option ℕ) (tests : Branching) (from to free r : ℕ) (t : Scalar) : Type 0 where
     pub true_exit : ℕ
     pub false_exit : ℕ
@@ -256,7 +256,7 @@ module _ (code : Code) (layout : Layout) where
     pub gives_zero : GivenBy home (Instr.Constant r 0) Int false_exit (suc false_exit) free r t
     pub zero_leads : LeadsTo code (suc false_exit) to
 
-  -- a branch's value, in the type of both, comes to a register straight, or is moved there
+  -- a branch's value, in the type of both, is computed into a register directly, or is moved there
   pub record MovedCode (home : Option ℕ) (e' : Expr) (e : Coded) (from to free r : ℕ) (t : Scalar) : Type 0 where
     pub mid : ℕ
     pub rc : ℕ
@@ -279,7 +279,7 @@ module _ (code : Code) (layout : Layout) where
     pub else_code : b false_exit end free r t
     pub else_leads : LeadsTo code end to
 
-  -- the first of several values, which are due in these types: without a type it stays in its own
+  -- the first of several values, which are due in these types: without a type it keeps its own
   abbrev pub HandedCode : List Scalar → Expr → Coded → (from to free r : ℕ) → Type 0
   HandedCode [] e' e from to free r = (t : Scalar) × e from to free r t
   HandedCode (u ∷ us) e' e from to free r = TypedCode None e' e u from to free r
@@ -322,7 +322,7 @@ module _ (code : Code) (layout : Layout) where
 
   module _ (p : Program) where
     abbrev mutual
-      -- an expression's value comes into the register r; its type is t
+      -- an expression's value is computed into the register r; its type is t
       pub ExprCode : Option ℕ → LocalScope → Expr → Coded
       ExprCode home scope (Variable x) = VariableCode home (length scope) (newest scope x.text) (global_of p x.text)
       ExprCode home scope (Constant n u at) = λ from to free r t.
@@ -351,8 +351,8 @@ module _ (code : Code) (layout : Layout) where
           × ((ls : List Local) → IsLike scope ls → type_of (running_scope p ls) (Conditional c a b at) ≡ Some t)
       ExprCode home scope (InTransaction mode keyword e at) = ValueTransactionCode (ExprCode home scope e)
 
-      -- a condition whose operator leads on by itself, without a value: that would be 0 or 1, of which each type has a
-      -- word, so that no cast changes what is tested
+      -- a condition whose operator jumps by itself, without a value: that would be 0 or 1, which each type represents,
+      -- so that no cast changes the test
       pub OwnTests : LocalScope → Expr → Branching
       OwnTests scope (Parenthesized e at) = OwnTests scope e
       OwnTests scope (Cast u e at) = OwnTests scope e
@@ -374,6 +374,6 @@ module _ (code : Code) (layout : Layout) where
           ArgCode (HandedCode ts e (ExprCode None scope e))
           (λ mid later others. ArgsCode scope (types_left ts) es mid to later others) from free rs
 
-    -- code that leads to `true_exit` where an expression's value is not 0, and to `false_exit` where it is
+    -- code that leads to `true_exit` if an expression's value is not 0, and to `false_exit` if it is
     abbrev pub CondCode : LocalScope → Expr → Branching
     CondCode scope e = Branches (ExprCode None scope e) (OwnTests scope e)

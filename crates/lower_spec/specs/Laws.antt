@@ -1,4 +1,4 @@
--- What is proved of code that stands for a program.
+-- Theorems on lowered code.
 use Rattle.std.specs.Prelude.{◌≡◌, ◌≢◌, ◌<◌, ◌^◌, ℕ, List}
 use Rattle.std.specs.List.{AllByRecursion}
 use Rattle.syntax.specs.declared.thread_end.Halt.TheVariants.{Astray}
@@ -14,7 +14,7 @@ use Rattle.bytecode.specs.Effects.{FitsCells}
 use Rattle.lower_spec.specs.Programs.{IsLowered}
 use Rattle.lower_spec.specs.Means.{MeansItsProgram}
 
--- no thread that finds memories of the program comes where nothing is said of it
+-- no thread that finds memories of the program goes wrong
 abbrev pub NeverGoesAstray : Program → Type 0
 NeverGoesAstray p =
     (t : ℕ) (founds : List Memory) → t < 2 ^ 32 → AllByRecursion (IsMemory (bounds p)) founds →
@@ -24,15 +24,15 @@ abbrev pub LoweredCodeMeans : Type 0
 LoweredCodeMeans =
     (p : Program) (code : Code) → IsTypedProgram p → IsLowered p code → NeverGoesAstray p → MeansItsProgram p code
 
--- the cells of code that stands for a program are the program's
+-- the cells of a lowering of a program are the program's
 abbrev pub LoweredCodeHasItsCells : Type 0
 LoweredCodeHasItsCells = (p : Program) (code : Code) → IsLowered p code → bounds_of code ≡ bounds p
 
--- no thread of an accepted program goes astray
+-- a lowering of an accepted program means it, as no thread of the program goes wrong
 abbrev pub AcceptedCodeMeans : Type 0
 AcceptedCodeMeans = (p : Program) (code : Code) → IsAccepted p → IsLowered p code → MeansItsProgram p code
 
--- what the machine's theorems ask of a code, of the first memory and of a program
+-- what the machine's theorems require of a code, of the initial memory and of a program
 pub record MeetsMachine (p : Program) (code : Code) : Type 0 where
   pub fits : FitsCells (effect code) (bounds p)
   pub starts : IsMemory (bounds p) (initial_memory p)

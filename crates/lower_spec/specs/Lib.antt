@@ -1,12 +1,12 @@
--- which instructions stand for expressions and conditions
+-- which instructions implement expressions and conditions
 pub mod Expressions
--- which instructions stand for statements
+-- which instructions implement statements
 pub mod Statements
--- which code stands for a program
+-- which code is a lowering of a program
 pub mod Programs
 -- when a code means a program
 pub mod Means
--- what is proved of code that stands for a program
+-- theorems on lowered code
 pub mod Laws
--- what only private functions and proofs speak of
+-- definitions for private functions and proofs only
 pub mod inner

@@ -1,4 +1,4 @@
--- Which code stands for a program.
+-- Which code is a lowering of a program.
 use Rattle.std.specs.Prelude.{◌≡◌, ℕ, suc, ◌≤◌, ◌+◌, List, [], ◌∷◌, ◌++◌, length, Option, Some, None, unwrap_or}
 use Rattle.std.specs.Prelude.{option_map, slice_get}
 use Rattle.lex.specs.declared.token.Scalar.{Scalar}
@@ -10,13 +10,13 @@ use Rattle.bytecode.specs.Beginning.{worker_among}
 use Rattle.lower_spec.specs.Expressions.{LocalScope, Layout, InstructionAt}
 use Rattle.lower_spec.specs.Statements.{Exits, StmtsCode}
 
--- the locals that a function begins with: its parameters, where they have names
+-- the locals that a function begins with: its parameters, if they have names
 abbrev pub parameter_locals : List Parameter → LocalScope
 parameter_locals [] = []
 parameter_locals (q ∷ qs) =
     unwrap_or (option_map (λ x. record { name = x.text; ty = q.ty; word = 0 } ∷ []) q.name) [] ++ parameter_locals qs
 
--- a function's own statements stand in no loop and in no transaction, and return values of its type
+-- a function's own statements are in no loop and in no transaction, and return values of its type
 abbrev pub no_exits : Option Scalar → Exits
 no_exits result = record {
   break_to = 0;
@@ -34,7 +34,7 @@ ConstantsCode code r [] from to = to ≡ from
 ConstantsCode code r (w ∷ ws) from to = InstructionAt code from (Instr.Constant r w)
     × ConstantsCode code (suc r) ws (suc from) to
 
--- the code of a function: its constants, its body, and a return where that runs off its end
+-- the code of a function: its constants, its body, and a return if that runs off its end
 pub record FunctionIsLowered (p : Program) (code : Code) (g : FunctionCode) (f : Function) (body : Stmts) : Type 0 where
   pub layout : Layout
   pub begins : ℕ

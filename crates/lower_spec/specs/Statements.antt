@@ -1,4 +1,4 @@
--- Which instructions stand for a statement: by cases on the tree. Locals lie in registers 0, 1, .. as they come.
+-- Which instructions implement a statement, by cases on the tree. Locals are in registers 0, 1, .., in order.
 use Rattle.std.specs.Prelude.{◌≡◌, ◌⊎◌, ℕ, zero, suc, ◌<◌, ◌≤◌, List, [], ◌∷◌, ◌++◌, length, Option, Some, None}
 use Rattle.std.specs.Prelude.{slice_get, option_map}
 use Rattle.lex.specs.declared.token.Scalar.{Scalar}
@@ -20,7 +20,7 @@ use Rattle.lower_spec.specs.Expressions.{widening}
 use Rattle.lower_spec.specs.Expressions.{constant_in, GivenBy, ConvertedBy, ConvertedCode, TypedCode, WordCode}
 use Rattle.lower_spec.specs.Expressions.{OperandCode, BinaryCode, ExprCode, CondCode, ArgsCode}
 
--- where an assignment goes: a local's register, a cell, or an element whose index lies in a register
+-- the target of an assignment: a local's register, a cell, or an element whose index is in a register
 pub data Target : Type 0 where
   LocalAt : (l : ℕ × Scalar) → Target
   CellAt : (g : GlobalCells) → Target
@@ -31,12 +31,12 @@ assigning (LocalAt l) ra = Instr.Move l.0 ra
 assigning (CellAt g) ra = Instr.Write g.cell ra
 assigning (ElementOf g ri) ra = Instr.WriteAt g.cell (cells g.global) ri ra
 
--- the home of a value that goes there
+-- the home of a value for this target
 abbrev pub home_of : Target → Option ℕ
 home_of (LocalAt l) = Some l.0
 home_of target = None
 
--- the type of what lies at a target, and the instruction that takes a value of another type there
+-- the type of a target's contents, and the instruction that stores a value of another type there
 abbrev pub target_type : Target → Scalar
 target_type (LocalAt l) = l.1
 target_type (CellAt g) = g.global.ty
@@ -47,7 +47,7 @@ due (LocalAt l) s = converting s l.1
 due (CellAt g) s = widening s g.global.ty
 due (ElementOf g ri) s = widening s g.global.ty
 
--- the index of an element lies below the free registers
+-- the index of an element is below the free registers
 abbrev pub Spares : Target → ℕ → Type 0
 Spares (ElementOf g ri) later = ri < later
 Spares target later = Unit {0}
@@ -75,7 +75,7 @@ in_transaction kind x = record x {
   in_outer = with_level kind x.in_outer;
 }
 
--- the instruction that cancels a transaction, and as one with it so many that are open inside it
+-- the instruction that cancels a transaction together with so many that are open inside it
 abbrev pub cancelling : ℕ → Instr
 cancelling zero = Instr.Cancel
 cancelling (suc n) = Instr.CancelOuter (suc (suc n))
@@ -112,14 +112,14 @@ module _ (code : Code) (layout : Layout) (p : Program) where
   Leaves q zero i = InstructionAt code q i
   Leaves q (suc n) i = InstructionAt code q Instr.Commit × Leaves (suc q) n i
 
-  -- a value somewhere above the locals
+  -- a value in some register above the locals
   pub record ValueCode (scope : LocalScope) (e : Coded) (from to r : ℕ) : Type 0 where
     pub free : ℕ
     pub room : length scope ≤ free
     pub t : Scalar
     pub computes : e from to free r t
 
-  -- a value in the type that is due, somewhere above the locals
+  -- a value in the type that is due, in some register above the locals
   pub record ResultCode (scope : LocalScope) (u : Scalar) (e : Expr) (from to r : ℕ) : Type 0 where
     pub free : ℕ
     pub room : length scope ≤ free
@@ -136,7 +136,7 @@ module _ (code : Code) (layout : Layout) (p : Program) where
   VariableTarget scope None None target = ⊥
   VariableTarget scope None (Some g) target = target ≡ CellAt g
 
-  -- an index in a register; it is checked there, where it is not read at once
+  -- an index in a register; it is checked there, unless it is read at once
   pub record ElementTarget (g : GlobalCells) (index : Coded) (from to free : ℕ) (target : Target) : Type 0 where
     pub ri : ℕ
     pub ti : Scalar
@@ -180,7 +180,7 @@ module _ (code : Code) (layout : Layout) (p : Program) where
   FetchCode (ElementOf g ri) from to free r t =
       GivenBy code layout None (Instr.ReadAt r g.cell (cells g.global) ri) g.global.ty from to free r t
 
-  -- a value goes to its target, or lies there already
+  -- a value goes to its target, or is there already
   abbrev pub StoreCode : Target → (r from to : ℕ) → Type 0
   StoreCode target r from to =
       ((to ≡ suc from) × InstructionAt code from (assigning target r)) ⊎ ((to ≡ from) × (home_of target ≡ Some r))
@@ -209,7 +209,7 @@ module _ (code : Code) (layout : Layout) (p : Program) where
         (target_type target)
     pub stores : StoreCode target r mid to
 
-  -- an expression's value goes to a target: a constant is set as what it is converted to
+  -- an expression's value goes to a target: a constant is set after conversion
   abbrev pub ExprStored : LocalScope → Target → Expr → (from to free : ℕ) → Type 0
   ExprStored scope target (Constant n s at) from to free =
       WordStored target (constant_in (target_type target) s n) from to free
@@ -224,7 +224,7 @@ module _ (code : Code) (layout : Layout) (p : Program) where
     pub spares : Spares target later
     pub stores : ExprStored scope target e mid to later
 
-  -- the old value is read first, and the result goes to its place
+  -- the old value is read first, and the result replaces it
   pub record ChangeCode (scope : LocalScope) (lhs : Expr) (op : BinaryOp) (by : Due) (from to : ℕ) : Type 0 where
     pub target : Target
     pub mid : ℕ
@@ -264,7 +264,7 @@ module _ (code : Code) (layout : Layout) (p : Program) where
   FirstValueCode scope local None from to = to ≡ from
   FirstValueCode scope local (Some e) from to = FirstCode scope local e from to
 
-  -- a local's register is 0, and then has its first value
+  -- a local's register is set to 0, and then has its first value
   pub record DeclaratorCode (scope inner : LocalScope) (t : Scalar) (first : Option Expr) (rest : ℕ → Type 0)
       (from : ℕ) : Type 0 where
     pub below : length scope < layout.writable
@@ -299,7 +299,7 @@ module _ (code : Code) (layout : Layout) (p : Program) where
     pub else_code : b false_exit end
     pub else_leads : LeadsTo code end to
 
-  -- a loop's test may stand before its body or behind it
+  -- a loop's test may come before its body or after it
   pub record WhileCode (x : Exits) (scope : LocalScope) (c : Branching) (a : Exits → ℕ → ℕ → Type 0) (from to : ℕ) :
       Type 0 where
     pub test_at : ℕ

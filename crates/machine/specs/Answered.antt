@@ -1,5 +1,5 @@
--- What each thread of a world was answered. The worlds of real threads are these too: there each access is an atomic
--- step on the shared words, and the answers are all that a thread learns of them.
+-- The responses that each thread of a world has received. This includes the worlds of real threads: each access there
+-- is an atomic step on the shared words, and a thread learns only the responses.
 use Rattle.std.specs.Prelude.{◌≡◌, ◌≤◌, ◌<◌, ◌+◌, ◌*◌, ◌⊎◌, ℕ, zero, suc, Bool, true, false, List, [], ◌∷◌, ◌++◌}
 use Rattle.std.specs.Prelude.{Option, None, Some, replicate, slice_index, slice_set, if◌then◌else◌}
 use Rattle.std.specs.List.{slice_get}
@@ -16,7 +16,7 @@ use Rattle.machine.specs.Worlds.{Record, Part, World, answer, step, part_after, 
 use Rattle.machine.specs.Merges.{Entry, IsMerge, run_of, count_takers}
 use Rattle.machine.specs.Explained.{HasLock, stored_of}
 
--- an access with its answer
+-- an access with its response
 pub record Heard : Type 0 where
   pub access : Access
   pub answer : Answer
@@ -29,11 +29,11 @@ is_local (Swap from) = false
 is_local (StoreWord a v) = false
 is_local (StoreLock n) = false
 
--- a local step gives no answer
+-- a local step receives no response
 abbrev pub hearing : Access → Answer → List Heard
 hearing x a = if is_local x then [] else record { access = x; answer = a } ∷ []
 
--- The worlds that steps which do not stop lead to, with what each thread was answered.
+-- The worlds that lists of steps without a stop lead to, with the responses of each thread.
 pub data Answered {C : Type 0} (code : C → Effect C) (init : ℕ → C) (m0 : List ℕ) (threads : ℕ) : World C →
     List (List Heard) → Type 0 where
   new : Answered code init m0 threads (new_world init m0 threads) (replicate threads [])
@@ -53,8 +53,7 @@ after_local_steps code zero p = Some p
 after_local_steps code (suc k) p = if is_local (access code p.thread) then after_local_steps code k (local_step code p)
     else None
 
--- The thread comes to this one in n steps, where its accesses get these answers in order, all of them, and no step
--- stops.
+-- The thread reaches this one in n steps if its accesses receive exactly these responses in order, and no step stops.
 pub data StepsHearing {C : Type 0} (code : C → Effect C) (th : Thread C) : ℕ → List Heard → Thread C → Type 0 where
   none : StepsHearing code th zero [] th
   local_more : (n : ℕ) (hs : List Heard) (u : Thread C) → StepsHearing code th n hs u → is_local (access code u) ≡ true
@@ -65,14 +64,14 @@ pub data StepsHearing {C : Type 0} (code : C → Effect C) (th : Thread C) : ℕ
       → StepsHearing code th (suc n) (hs ++ record { access = access code u; answer = a } ∷ [])
       (step_with code u a).thread
 
--- the lock value that an answer gives
+-- the lock value in a response
 abbrev pub lock_value : Access → Answer → Option ℕ
 lock_value LoadLock (Value n) = Some n
 lock_value (Swap from) (Lost n) = Some n
 lock_value (Swap from) Won = Some from
 lock_value x a = None
 
--- each lock value among these answers is at least n, or at most n
+-- each lock value among these responses is at least n, or at most n
 abbrev pub LocksFrom : ℕ → List Heard → Type 0
 LocksFrom n [] = Unit {0}
 LocksFrom n (h ∷ hs) = ((l : ℕ) → lock_value h.access h.answer ≡ Some l → n ≤ l) × LocksFrom n hs
@@ -81,7 +80,7 @@ abbrev pub LocksTo : ℕ → List Heard → Type 0
 LocksTo n [] = Unit {0}
 LocksTo n (h ∷ hs) = ((l : ℕ) → lock_value h.access h.answer ≡ Some l → l ≤ n) × LocksTo n hs
 
--- no lock value among these answers is below an earlier one
+-- no lock value among these responses is below an earlier one
 abbrev pub Ascends : List Heard → Type 0
 Ascends [] = Unit {0}
 Ascends (h ∷ hs) = ((l : ℕ) → lock_value h.access h.answer ≡ Some l → LocksFrom l hs) × Ascends hs
@@ -91,12 +90,12 @@ abbrev pub NumbersBelow : ℕ → List Record → Type 0
 NumbersBelow n [] = Unit {0}
 NumbersBelow n (r ∷ rs) = (r.took_lock ≡ true → r.snapshot + 1 < n) × NumbersBelow n rs
 
--- the last lock value answered
+-- the last lock value in a response
 abbrev pub next_lock : ℕ → Option ℕ → ℕ
 next_lock l None = l
 next_lock l (Some n) = n
 
--- each answer is one to its access
+-- each response is one to its access
 abbrev pub AreAnswers : List Heard → Type 0
 AreAnswers [] = Unit {0}
 AreAnswers (h ∷ hs) = IsAnswerTo h.access h.answer × AreAnswers hs
@@ -106,8 +105,8 @@ abbrev pub IsAmong : ℕ × ℕ → List (ℕ × ℕ) → Type 0
 IsAmong p [] = ⊥
 IsAmong p (q ∷ qs) = (p ≡ q) ⊎ IsAmong p qs
 
--- The word v of cell a, answered after the lock value l: it is that of a place of the run with at least half of l
--- lock-taking steps before it, or that of a pair which the thread that has the lock has stored so far.
+-- The word v of cell a, received after the lock value l, is that of a place of the run with at least half of l
+-- lock-taking steps before it, or that of a pair which the lock's holder has stored so far.
 abbrev pub IsVisibleWord : {C : Type 0} → Memory → World C → List Entry → ℕ → ℕ → ℕ → Type 0
 IsVisibleWord {C} m0 w es l a v =
     ((before : List Entry) × (after : List Entry) × (es ≡ before ++ after) × (l ≤ 2 * count_takers before + 1)
@@ -119,15 +118,14 @@ abbrev pub WordOf : {C : Type 0} → Memory → World C → List Entry → ℕ �
 WordOf m0 w es l (LoadWord a) (Value v) = IsVisibleWord m0 w es l a v
 WordOf m0 w es l x y = Unit {0}
 
--- each word among these answers is one that a place of the run has, or that is stored so far
+-- each word among these responses is one that a place of the run has, or that is stored so far
 abbrev pub AreVisibleWords : {C : Type 0} → Memory → World C → List Entry → ℕ → List Heard → Type 0
 AreVisibleWords m0 w es l [] = Unit {0}
 AreVisibleWords m0 w es l (h ∷ hs) = WordOf m0 w es l h.access h.answer
     × AreVisibleWords m0 w es (next_lock l (lock_value h.access h.answer)) hs
 
--- What holds of the answers of a thread in every world: the lock values never fall and are at most the lock,
--- a lost swap found another value than the one that it swaps from, and each word is one that a place of the
--- run has, or that is stored so far.
+-- In every world, the lock values that a thread receives never fall and are at most the lock; a lost swap found a value
+-- other than the expected one; and each word is one that a place of the run has, or that is stored so far.
 pub record AnswersOk {C : Type 0} (m0 : Memory) (w : World C) (hs : List Heard) : Type 0 where
   pub ascend : Ascends hs
   pub bounded : LocksTo w.lock hs

@@ -1,5 +1,5 @@
--- What attempts have computed, also those that will be dropped: what the code's meaning computes in the memory of the
--- attempt's moment.
+-- The results that attempts have computed, including those that will abort: the code's meaning computes them in the
+-- memory of the attempt's moment.
 use Rattle.std.specs.Prelude.{◌≡◌, ℕ, List, [], ◌∷◌, ◌++◌, Some}
 use Rattle.std.specs.List.{slice_get}
 use Rattle.write_log.specs.Overlay.{overlay}
@@ -11,8 +11,8 @@ use Rattle.machine.specs.Explained.{HasMoment}
 use Rattle.machine.specs.Merges.{Entry, IsMerge, run_of}
 use Rattle.machine.specs.Worlds.{Part, World}
 
--- Thread t, on the memories that its own transactions found in the run and then on this one, comes to just where its
--- attempt is: the same registers, frames and place, the same text, and it sees this memory with the write log over it.
+-- Thread t, run on the memories that its own transactions found in the run and then on this one, reaches exactly its
+-- attempt's state: the same registers, frames, place and text, and this memory with the write log over it.
 pub record ComputesOn {C : Type 0} (code : C → Effect C) (init : ℕ → C) (es : List Entry) (t : ℕ) (p : Part C)
     (a : Attempt C) (memory : Memory) : Type 0 where
   pub instructions : ℕ

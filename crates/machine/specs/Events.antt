@@ -1,4 +1,4 @@
--- What an event says of the step that it is told of.
+-- The meaning of an event for the step that reports it.
 use Rattle.std.specs.Prelude.{◌≡◌, ◌≢◌, ◌↔◌, ◌⊎◌, ℕ, ◌-◌, drop, false, [], Option, None, Some}
 use Rattle.std.specs.List.{slice_get}
 use Rattle.syntax.specs.declared.thread_end.Trap.{Trap}
@@ -10,15 +10,15 @@ use Rattle.machine.specs.declared.event.Event.TheVariants as event
 use Rattle.machine.specs.Threads.{Thread, Next, access, step_with}
 use Rattle.machine.specs.Worlds.{Part, World, answer}
 
--- the instruction cancels a transaction, or several: inner ones, or the outermost one without the lock kept
+-- the instruction cancels one or more transactions: inner ones, or the outermost one without the lock kept
 abbrev pub Cancels : {C : Type 0} → Effect C → Option (Attempt C) → Type 0
 Cancels Cancel (Some a) = (a.kept ≡ false) ⊎ (a.inner ≢ [])
 Cancels (CancelOuter n) (Some a) = (a.kept ≡ false) ⊎ (drop (n - 1) a.inner ≢ [])
 Cancels _ _ = ⊥
 
--- a step of a thread at this instruction, and the event that is told of it
+-- a step of a thread at this instruction, and the event that it reports
 pub record EventTells {C : Type 0} (x : Effect C) (th : Thread C) (n : Next C) : Type 0 where
-  -- an abort: the attempt is gone, and nothing took effect
+  -- an abort: the attempt no longer exists, and nothing took effect
   pub aborts : (n.event ≡ event.Abort) ↔ ((th.attempt ≢ None) × (n.thread.attempt ≡ None) × (n.completed ≡ None))
   -- a commit: a transaction took effect at a commit
   pub commits : (n.event ≡ event.Commit) ↔ ((n.completed ≢ None) × ((c : C) × (x ≡ Commit c)))
@@ -27,7 +27,7 @@ pub record EventTells {C : Type 0} (x : Effect C) (th : Thread C) (n : Next C) :
   pub traps : (cause : Trap) →
       (n.event ≡ event.Trap cause) ↔ ((th.status ≡ Running) × (n.thread.status ≡ HasTrapped cause))
 
--- every step that a thread of the world can make next, and the event that is told of it
+-- every possible next step of a thread of the world, and the event that it reports
 abbrev pub EventsTell : {C : Type 0} → (C → Effect C) → World C → Type 0
 EventsTell {C} code w = (t : ℕ) (p : Part C) → slice_get w.parts t ≡ Some p →
     EventTells (code p.thread.configuration) p.thread

@@ -1,50 +1,50 @@
 -- a thread, its accesses and its steps
 pub mod Threads
--- worlds, their steps, and which of them are reached
+-- worlds, their steps, and reachability
 pub mod Worlds
 -- merges of the records
 pub mod Merges
--- what a merge says of a world
+-- worlds explained by a merge
 pub mod Explained
--- what holds of every list of steps
+-- properties of every list of steps
 pub mod Serializable
--- what begins later stands behind
+-- later transactions come after earlier ones
 pub mod Strict
--- what attempts have computed
+-- the results that attempts have computed
 pub mod Computes
 -- all attempts in one order
 pub mod OneOrder
--- how often attempts are dropped
+-- how often attempts abort
 pub mod Drops
 -- a thread that steps alone
 pub mod Alone
--- what a code means inside a transaction, by an attempt's logs
+-- a code's meaning inside a transaction, by an attempt's logs
 pub mod Open
--- a thread that runs alone beside others
+-- a thread that runs alone while the others do not step
 pub mod Solo
 -- threads that rest between their transactions
 pub mod Resting
 -- turns of threads that rest
 pub mod Turns
--- how many accesses an undisturbed transaction makes, by what its code means
+-- the number of accesses of an undisturbed transaction, by its code's meaning
 pub mod Tallies
--- what becomes of a thread that has the lock
+-- progress of a thread that has the lock
 pub mod Holders
--- what an event says of its step
+-- the meaning of an event for its step
 pub mod Events
 -- the cells that threads use
 pub mod NamedCells
--- what threads were answered
+-- the responses that threads received
 pub mod Answered
--- answers by traces
+-- responses by traces
 pub mod Traces
 -- where attempts begin
 pub mod Moments
--- how a thread stands in a valid code
+-- the state of a thread in valid code
 pub mod Standing
 -- a thread as its contracts see it
 pub mod States
 -- loads for the reads of a thread
 pub mod Loads
--- what the proofs need, and no contract
+-- definitions for the proofs only
 pub mod inner

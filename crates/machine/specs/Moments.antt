@@ -1,4 +1,4 @@
--- Where the moment of an attempt stands that began at a lock value n or later.
+-- The place of an attempt's moment if the attempt began at lock value n or later.
 use Rattle.std.specs.Prelude.{◌≡◌, ◌<◌, ◌≤◌, ◌+◌, ℕ, true, List, ◌∷◌, ◌++◌, Some, length}
 use Rattle.std.specs.List.{slice_get}
 use Rattle.syntax.specs.Behaviours.{Behaviour, Memory}
@@ -7,7 +7,7 @@ use Rattle.machine.specs.Explained.{HasMoment, IsExplainedBy}
 use Rattle.machine.specs.Merges.{Entry}
 use Rattle.machine.specs.Worlds.{Part, World}
 
--- every step of the run that took the lock at a value below n stands before the moment
+-- every step of the run that took the lock at a value below n comes before the moment
 abbrev pub StandsPast : ℕ → List Entry → List Entry → Type 0
 StandsPast n es before = (front : List Entry) (e : Entry) (back : List Entry) → es ≡ front ++ e ∷ back →
     e.item.took_lock ≡ true → e.item.snapshot + 1 < n → length front < length before

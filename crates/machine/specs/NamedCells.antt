@@ -1,4 +1,4 @@
--- A thread names cells of the memory alone.
+-- A thread names only cells of the memory.
 use Rattle.std.specs.Prelude.{◌≡◌, ◌<◌, ◌%◌, ℕ, List, Option, None, Some}
 use Rattle.std.specs.List.{slice_get, AllByRecursion}
 use Rattle.bytecode.specs.Effects.{Effect}
@@ -12,7 +12,7 @@ use Rattle.machine.specs.Worlds.{Part, World}
 abbrev pub AreOfCells : ℕ → List (ℕ × ℕ) → Type 0
 AreOfCells cells ps = AllByRecursion (λ (q : ℕ × ℕ). q.0 < cells) ps
 
--- both logs of an attempt name cells of the memory alone, and so does the write log as it was at each inner begin
+-- both logs of an attempt name only cells of the memory, and so does the write log as it was at each inner begin
 pub record LogsFit {C : Type 0} (cells : ℕ) (a : Attempt C) : Type 0 where
   pub reads : AreOfCells cells a.reads
   pub writes : AreOfCells cells a.writes
@@ -31,7 +31,7 @@ AccessFits cells (Swap from) = Unit {0}
 AccessFits cells (StoreWord ad v) = ad < cells
 AccessFits cells (StoreLock n) = Unit {0}
 
--- the access names a cell, or swaps from an even value, which can be followed
+-- the access names a cell, or swaps from an even value, which has a successor
 abbrev pub IsMakeable : ℕ → Access → Type 0
 IsMakeable cells Local = Unit {0}
 IsMakeable cells LoadLock = Unit {0}

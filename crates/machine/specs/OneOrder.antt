@@ -1,6 +1,5 @@
--- All attempts in one order: the transactions that took effect, and between them the attempts that were dropped and
--- those that have not ended. So what is said of live and dropped attempts is opacity (Guerraoui and Kapałka, PPoPP
--- 2008).
+-- All attempts in one order: the transactions that took effect, and between them the aborted attempts and those that
+-- have not ended. The claims about live and aborted attempts are thus opacity (Guerraoui and Kapałka, PPoPP 2008).
 use Rattle.std.specs.Prelude.{◌≡◌, ◌⊎◌, ℕ, suc, false, List, [], ◌∷◌, ◌++◌, Option, None, Some}
 use Rattle.std.specs.List.{slice_get}
 use Rattle.syntax.specs.Behaviours.{IsChained, IsSubsequence, Memory}
@@ -16,7 +15,7 @@ use Rattle.machine.specs.Worlds.{Part, Record, World, answer, new_world, record_
 abbrev pub idle_record : {C : Type 0} → Memory → Attempt C → Record
 idle_record base a = record { snapshot = a.snapshot; took_lock = false; found = base; left = base }
 
--- the record of the attempt that ends in a step, if one does: its transaction takes effect, or it is dropped
+-- the record of the attempt that ends in a step, if one does: its transaction takes effect, or it aborts
 abbrev pub end_record : {C : Type 0} → Memory → Option Completed → (before after : Option (Attempt C)) → Option Record
 end_record base (Some x) o o' = Some (record_of base x)
 end_record base None (Some a) None = Some (idle_record base a)
@@ -29,7 +28,7 @@ ended_in code w (Some p) =
     let n = step_with code p.thread (answer w.lock w.words (access code p.thread)) in
     end_record p.base n.completed p.thread.attempt n.thread.attempt
 
--- the merge with the dropped attempts too, which keeps equals in the order in which they ended
+-- the merge including the aborted attempts, which keeps equals in the order in which they ended
 abbrev pub attempts_merge : {C : Type 0} → (C → Effect C) → List ℕ → World C → List Entry → List Entry
 attempts_merge code [] w es = es
 attempts_merge code (t ∷ ts) w es =
@@ -59,13 +58,13 @@ WithIdle (e ∷ es) [] = ⊥
 WithIdle [] (x ∷ all) = IsIdle x × WithIdle [] all
 WithIdle (e ∷ es) (x ∷ all) = ((e ≡ x) × WithIdle es all) ⊎ (IsIdle x × WithIdle (e ∷ es) all)
 
--- an attempt that has not ended, put into the order as if it was dropped now
+-- an attempt that has not ended, inserted into the order as if it aborted now
 pub record MayDropNow {C : Type 0} (m0 : Memory) (t : ℕ) (p : Part C) (a : Attempt C) (seen all : List Entry)
     : Type 0 where
   pub in_time : StandsAfter (record { thread = t; item = idle_record p.base a }) seen all
   pub chained : IsChained m0 (run_of (insert (record { thread = t; item = idle_record p.base a }) all))
 
--- an attempt of thread t, if it has one, put into the order as if it was dropped now
+-- an attempt of thread t, if it has one, inserted into the order as if it aborted now
 abbrev pub insert_open : {C : Type 0} → ℕ → Memory → Option (Attempt C) → List Entry → List Entry
 insert_open t base None es = es
 insert_open t base (Some a) es = insert (record { thread = t; item = idle_record base a }) es
@@ -75,21 +74,21 @@ abbrev pub insert_live : {C : Type 0} → ℕ → List (Part C) → List Entry �
 insert_live t [] es = es
 insert_live t (p ∷ ps) es = insert_live (suc t) ps (insert_open t p.base p.thread.attempt es)
 
--- all attempts, those that have not ended too
+-- all attempts, including those that have not ended
 abbrev pub with_live : {C : Type 0} → (C → Effect C) → (ℕ → C) → Memory → ℕ → List ℕ → List Entry
 with_live code init m0 threads ts =
     insert_live 0 (world_after code init m0 threads ts).parts (attempts_after code init m0 threads ts)
 
--- the entry stands in the list, behind all of these, as often as they are there
+-- the entry occurs in the list, after all of these with their multiplicity
 pub record IsBehind (e : Entry) (seen all : List Entry) : Type 0 where
   pub before : List Entry
   pub after : List Entry
   pub place : all ≡ before ++ e ∷ after
   pub earlier : IsSubsequence seen before
 
--- All attempts that have not ended are put into the order at once, as if each was dropped now. It is an order still:
--- those that have ended stand in it as before, each finds what the one before it left, and each that has not ended
--- stands behind all that had ended when it loaded its first snapshot.
+-- All attempts that have not ended are inserted into the order at once, as if each aborted now. It is still an order:
+-- those that have ended keep their sequence, each finds what the one before it left, and each that has not ended comes
+-- after all that had ended when it loaded its first snapshot.
 pub record MayAllDropNow {C : Type 0} (code : C → Effect C) (init : ℕ → C) (m0 : Memory) (threads : ℕ) (ts : List ℕ)
     : Type 0 where
   pub effective : WithIdle (merge_after code init m0 threads ts) (with_live code init m0 threads ts)
@@ -101,10 +100,10 @@ pub record MayAllDropNow {C : Type 0} (code : C → Effect C) (init : ℕ → C)
       (with_live code init m0 threads ts)
 
 -- One order of all attempts that have ended. Those that took effect are the run in it; each finds what the one before
--- it left, and a dropped one leaves that too. Each attempt is where its code's meaning comes on the memory that it
--- finds there, whether it takes effect or will be dropped. An attempt that ends in the next step stands after all that
--- had ended when it loaded its first snapshot; and so would one that has not ended yet, or all of these at once. More
--- steps put further attempts in, and move none.
+-- it left, and an aborted one leaves that unchanged. Each attempt is in the state that its code's meaning reaches on
+-- the memory that it finds there, whether it takes effect or will abort. An attempt that ends in the next step comes
+-- after all that had ended when it loaded its first snapshot; so would one that has not ended yet, or all of these at
+-- once. More steps insert further attempts, and move none.
 pub record IsInOneOrder {C : Type 0} (code : C → Effect C) (init : ℕ → C) (m0 : Memory) (threads : ℕ) (ts : List ℕ)
     : Type 0 where
   pub effective : WithIdle (merge_after code init m0 threads ts) (attempts_after code init m0 threads ts)

@@ -1,5 +1,5 @@
--- How a thread stands in a valid code: in its frames, with its begins open there, and with words in hand. Each call
--- of a thread asks it and gives it back, since the thread keeps no code.
+-- The state of a thread in valid code: its frames, its begins that are open there, and the words in hand. Each call of
+-- a thread requires it and ensures it, since the thread does not store its code.
 use Rattle.std.specs.Prelude.{◌≡◌, ◌<◌, ◌^◌, ℕ, List, [], ◌∷◌, ◌++◌, Option, None, Some, map}
 use Rattle.std.specs.List.{AllByRecursion}
 use Rattle.syntax.specs.declared.thread_end.Status.{Status}
@@ -28,7 +28,7 @@ HasInHand inner (ReadsLock word) = word < 2 ^ 64
 HasInHand inner (Stores i) = inner ≡ []
 HasInHand inner _ = Unit {0}
 
--- whatever an attempt may yet give to a register fits it
+-- every word that an attempt may yet give to a register fits it
 pub record GivesRegisterWords {S : Type 0} (a : Attempt S) : Type 0 where
   pub writes : HaveWords a.writes
   pub marks : AllByRecursion (λ (k : Checkpoint S). HaveWords k.writes) a.inner
@@ -38,15 +38,14 @@ abbrev pub GivesWordsIf : {S : Type 0} → Option (Attempt S) → Type 0
 GivesWordsIf None = Unit {0}
 GivesWordsIf (Some a) = GivesRegisterWords a
 
--- a thread that runs may stand where it does, where its open begins saved these: they had the
--- configurations of its attempt
+-- a running thread's state is valid for these saves of its open begins: they had the configurations of its attempt
 pub record Runs (code : Code) (th : Thread Configuration) : Type 0 where
   pub saved : List Saved
   pub stands : MayStand code th.configuration saved
   pub begins : begins_of th.attempt ≡ map (begin_configuration th.configuration) saved
   pub words : GivesWordsIf th.attempt
 
--- how a thread with this status stands: one that is over has no attempt
+-- the state of a thread with this status: one that has terminated has no attempt
 abbrev pub IsStanding : Code → Thread Configuration → Status → Type 0
 IsStanding code th Running = Runs code th
 IsStanding code th HasEnded = th.attempt ≡ None

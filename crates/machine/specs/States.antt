@@ -25,8 +25,8 @@ use Rattle.norec_core.specs.Cores.{CommitsLocally, ComparesWith, IsComparing, Is
 use Rattle.machine.specs.Explained.{has_lock}
 use Rattle.machine.specs.Threads.{Next, Thread, op_of, access, step_with}
 
--- what was made ready for a step: the operation that the core was asked for, what a begin then saves, and the
--- room for an entry of the read log, a pair of the write log, a call and a print
+-- the preparation of a step: the operation requested of the core, what a begin then saves, and the capacity for an
+-- entry of the read log, a pair of the write log, a call and a print
 pub record Ready : Type 0 where
   pub asked : Option Op
   pub saved : Saved
@@ -35,14 +35,14 @@ pub record Ready : Type 0 where
   pub call_room : ℕ
   pub text_room : ℕ
 
--- the thread of the machine, the access for whose answer all is ready, and the number of accesses that it has made
+-- the thread of the machine, the access for whose response all is ready, and the number of accesses made so far
 pub record ThreadState : Type 0 where
   pub thread : Thread Configuration
   pub prepared : Option Access
   pub accesses : ℕ
   pub ready : Ready
 
--- what a thread asks of the core in its next step, if anything
+-- the operation that a thread requests of the core in its next step, if any
 abbrev pub asks_outside : {C : Type 0} → Status → Effect C → Option Op
 asks_outside Running (Begin c d) = Some op.Begin
 asks_outside _ _ = None
@@ -54,7 +54,7 @@ asks_by th (Some a) x = op_of x a.kept th.trapping
 abbrev pub asks : {C : Type 0} → (C → Effect C) → Thread C → Option Op
 asks code th = asks_by th th.attempt (code th.configuration)
 
--- all that the thread's next step needs is ready
+-- everything that the thread's next step needs is ready
 pub record IsReady (code : Code) (th : Thread Configuration) (r : Ready) : Type 0 where
   pub asked : (o : Op) → asks (effect code) th ≡ Some o → r.asked ≡ Some o
   pub saved : asks (effect code) th ≡ Some op.Begin → r.saved ≡ saved_in th.configuration
@@ -63,14 +63,14 @@ pub record IsReady (code : Code) (th : Thread Configuration) (r : Ready) : Type 
   pub print : (piece : List ℕ) (next : Configuration) → effect code th.configuration ≡ Print piece next →
       length piece ≤ r.text_room
 
--- the access of the thread's next step is prepared, and all is ready where it runs
+-- the access of the thread's next step is prepared, and if it runs, everything is ready
 pub record IsPrepared (code : Code) (s : ThreadState) : Type 0 where
   pub access : s.prepared ≡ Some (access (effect code) s.thread)
   pub ready : s.thread.status ≡ Running → IsReady code s.thread s.ready
 
--- An instruction with this effect may want memory: a begin, and otherwise one that adds to what there is no room in. That
--- is a log for a read or a write, which add nothing while the attempt is under validation; the text for a print (of an
--- empty piece nothing is said); the frames for a call, the one that works in registers and frames and wants room.
+-- An instruction with this effect may allocate: a begin, or one that adds to something without spare capacity: a log
+-- for a read or a write (not during validation), the text for a print (an empty piece is excluded), or the frames for a
+-- call, whose work is in registers and frames.
 abbrev pub WantsRoom : {S : Type 0} → Code → Configuration → Ready → Option (Attempt S) → Effect Configuration → Type 0
 WantsRoom code c r o (Begin d e) = Unit {0}
 WantsRoom code c r o (Read cell k) = (r.read_room ≡ 0) × IfSome o (λ a. MayLog a.phase)
@@ -79,34 +79,34 @@ WantsRoom code c r o (Print piece d) = 0 < length piece → r.text_room < length
 WantsRoom code c r o (Pure d) = HasRoom code (record { configuration = c; room = r.call_room }) → ⊥
 WantsRoom code c r o _ = ⊥
 
--- the thread's next step may want memory
+-- the thread's next step may allocate
 abbrev pub MayWantMemory : Code → Thread Configuration → Ready → Type 0
 MayWantMemory code th r = WantsRoom code th.configuration r th.attempt (effect code th.configuration)
 
--- where the thread runs, this is what stands at its place to be done
+-- if the thread runs, this is the work at its place
 abbrev pub StandsAt : Code → ThreadState → Doing → Type 0
 StandsAt code s doing = s.thread.status ≡ Running → IsDoingAt code s.thread.configuration doing
 
--- what a thread that runs leaves where it makes steps by itself: no local step in its registers, no return, and no
--- commit that makes no access and has not the lock
+-- a running thread's work after it has made steps by itself: no local step in its registers, no return, and no commit
+-- that makes no access and does not have the lock
 abbrev pub IsLeft : {S : Type 0} → Option (Attempt S) → Doing → Type 0
 IsLeft o doing.Local = ⊥
 IsLeft o (doing.Return w) = ⊥
 IsLeft o doing.Commit = IsSomeAnd o (λ a. CommitsLocally a) → ⊥
 IsLeft o x = Unit {0}
 
--- The thread runs, and its next step is the load of an outermost begin. What the begin saves is ready.
+-- The thread runs, and its next step is the load of an outermost begin. The state that the begin saves is ready.
 pub record BeginsNext (code : Code) (s : ThreadState) : Type 0 where
   pub running : s.thread.status ≡ Running
   pub attempt : s.thread.attempt ≡ None
   pub saved : s.ready.saved ≡ saved_in s.thread.configuration
 
--- the thread runs, and its commit stores the pair at this index of the write log next, or past the last pair the lock
+-- the thread runs, and its commit next stores the pair at this index of the write log, or after the last pair the lock
 pub record StoresNext (s : ThreadState) (index : ℕ) : Type 0 where
   pub running : s.thread.status ≡ Running
   pub stores : IsSomeAnd s.thread.attempt (λ a. IsStoring index a)
 
--- the thread runs, and its next access is a swap from this value of the lock, which can be followed
+-- the thread runs, and its next access is a swap from this value of the lock, which has a successor
 pub record SwapsNext (code : Code) (s : ThreadState) (from : ℕ) : Type 0 where
   pub running : s.thread.status ≡ Running
   pub swap : access (effect code) s.thread ≡ Swap from
@@ -116,7 +116,7 @@ pub record SwapsNext (code : Code) (s : ThreadState) (from : ℕ) : Type 0 where
 abbrev pub told_twice : Code → Thread Configuration → (word lock : ℕ) → Next Configuration
 told_twice code th word lock = step_with (effect code) (step_with (effect code) th (Value word)).thread (Value lock)
 
--- a loaded cell's word is a word of the cell's type
+-- a loaded word is in range for its cell's type
 abbrev pub IsWordOf : Code → Access → Answer → Type 0
 IsWordOf code (LoadWord cell) (Value word) = word < slice_index (bounds_of code) cell
 IsWordOf code _ _ = Unit {0}
@@ -146,25 +146,25 @@ IsValidated op.Commit = Unit {0}
 IsValidated op.Irrevocable = Unit {0}
 IsValidated _ = ⊥
 
--- the thread runs, stands at an operation under which its attempt is validated, and validation loads the lock next,
+-- the thread runs and is at an operation under which its attempt is validated, and validation next loads the lock,
 -- until it is even
 pub record WaitsNext (code : Code) (s : ThreadState) : Type 0 where
   pub running : s.thread.status ≡ Running
   pub operation : IsSomeAnd (asks (effect code) s.thread) IsValidated
   pub waits : IsSomeAnd s.thread.attempt (λ a. IsWaiting a)
 
--- The thread runs, stands at an operation under which its attempt is validated, and validation at this lock value
--- compares the entry at this index of the read log next, or past the last entry the lock.
+-- The thread runs and is at an operation under which its attempt is validated, and validation at this lock value next
+-- compares the entry at this index of the read log, or after the last entry the lock.
 pub record ComparesNext (code : Code) (s : ThreadState) (time index : ℕ) : Type 0 where
   pub running : s.thread.status ≡ Running
   pub operation : IsSomeAnd (asks (effect code) s.thread) IsValidated
   pub compares : IsSomeAnd s.thread.attempt (λ a. IsComparing time index a)
 
--- validation at this lock value compares this entry of the read log next, the one at this index; past the last entry
--- none
+-- validation at this lock value next compares this entry of the read log, the one at this index; none after the last
+-- entry
 abbrev pub ComparesEntry : ThreadState → (time index : ℕ) → Option (ℕ × ℕ) → Type 0
 ComparesEntry s time index entry = IsSomeAnd s.thread.attempt (λ a. ComparesWith time index entry a)
 
--- what stood at the thread's place to be done stands there still
+-- the work at the thread's place is unchanged
 abbrev pub StandsStill : Code → ThreadState → ThreadState → Type 0
 StandsStill code s t = (doing : Doing) → StandsAt code s doing → StandsAt code t doing

@@ -1,4 +1,4 @@
--- How many accesses an outermost transaction makes that nobody disturbs, counted by what its code means.
+-- The number of accesses that an undisturbed outermost transaction makes, counted by its code's meaning.
 use Rattle.std.specs.Prelude.{◌≡◌, ◌≢◌, ◌+◌, ◌-◌, drop, ◌*◌, ◌%◌, ◌==◌, ◌⊎◌, ℕ, zero, suc, Bool, true, false, List, []}
 use Rattle.std.specs.Prelude.{◌∷◌, ◌++◌, Option, None, Some, length, if◌then◌else◌}
 use Rattle.std.specs.List.{slice_get}
@@ -16,7 +16,7 @@ use Rattle.norec_core.specs.Attempts.{Attempt}
 use Rattle.machine.specs.Threads.{access}
 use Rattle.machine.specs.Worlds.{Part, Record, World, run, step}
 
--- what an outermost transaction has done so far, by its code's meaning
+-- the work of an outermost transaction so far, by its code's meaning
 pub record Tally : Type 0 where
   pub reads : ℕ  -- of cells that it had not written then, before an irrevocable
   pub kept_reads : ℕ  -- of cells that it had not written then, after an irrevocable
@@ -67,18 +67,17 @@ abbrev pub tally_after : {C : Type 0} → (C → Effect C) → ℕ → Sequentia
 tally_after code zero s t = (s, t)
 tally_after code (suc n) s t = tally_after code n (next code s) (tally_step t (code s.configuration))
 
--- one access for the begin, two for each read, and where an irrevocable was carried out its
--- swap and one for each read since
+-- one access for the begin, two for each read, and after an irrevocable its swap and one for each later read
 abbrev pub accesses_so_far : Tally → ℕ
 accesses_so_far t = 1 + 2 * t.reads + (if t.kept then 1 + t.kept_reads else 0)
 
--- a commit swaps the lock, stores each word and releases the lock; where nothing was written it makes no access
+-- a commit swaps the lock, stores each word and releases the lock; if nothing was written, it makes no access
 abbrev pub commit_accesses : List ℕ → ℕ
 commit_accesses [] = 0
 commit_accesses (a ∷ cells) = length (a ∷ cells) + 2
 
--- all accesses of a transaction that ends with this tally. With the lock kept a commit stores each word and releases
--- it; a trap releases it alone.
+-- All accesses of a transaction that ends with this tally. If the lock is kept, a commit stores each word and releases
+-- it; a trap only releases it.
 abbrev pub accesses : Tally → (commits : Bool) → ℕ
 accesses t true = accesses_so_far t + (if t.kept then length t.written + 1 else commit_accesses t.written)
 accesses t false = accesses_so_far t + (if t.kept then 1 else 0)
@@ -87,7 +86,7 @@ abbrev pub is_commit : {C : Type 0} → Effect C → Bool
 is_commit (Commit c) = true
 is_commit _ = false
 
--- A transaction that begins in c and finds this memory: after some instructions it is inside still, with this tally.
+-- A transaction that begins at c and finds this memory: after some instructions it is still inside, with this tally.
 pub record IsTallied {C : Type 0} (code : C → Effect C) (c : C) (found : Memory) (s : Sequential C)
     (tally : Tally) : Type 0 where
   pub instructions : ℕ
@@ -124,7 +123,7 @@ IsUndisturbed code t (u ∷ us) w =
     (((u ≡ t) × IsInside w t) ⊎ ((u ≢ t) × (cost_next code (slice_get w.parts u) ≡ 0)))
     × IsUndisturbed code t us (step code w u)
 
--- how many accesses the operation has made that the attempt is at
+-- the number of accesses made by the attempt's current operation
 abbrev pub accesses_at : Bool → Phase → ℕ
 accesses_at kept AtOperation = 0
 accesses_at kept (ReadsLock v) = 1
@@ -132,7 +131,7 @@ accesses_at kept ValidatesTime = 0
 accesses_at kept (ValidatesEntry time i) = 0
 accesses_at kept (Stores i) = if kept then i else suc i
 
--- After k accesses the thread is inside its attempt, and the meaning stands where it does.
+-- After k accesses the thread is inside its attempt, and the meaning is in the same state.
 pub record IsOpenAfter {C : Type 0} (code : C → Effect C) (w : World C) (t : ℕ) (first : Part C) (k : ℕ)
     (v : World C) : Type 0 where
   pub part : Part C
@@ -146,7 +145,7 @@ pub record IsOpenAfter {C : Type 0} (code : C → Effect C) (w : World C) (t : �
   pub count : k ≡ accesses_so_far tally + accesses_at tally.kept attempt.phase
 
 -- After k accesses the transaction has taken effect: it has left its record, and the meaning's next instruction has
--- ended it too and comes where the thread is.
+-- also ended it and reaches the thread's state.
 pub record IsOverAfter {C : Type 0} (code : C → Effect C) (w : World C) (t : ℕ) (first : Part C) (k : ℕ)
     (v : World C) : Type 0 where
   pub part : Part C
@@ -161,8 +160,8 @@ pub record IsOverAfter {C : Type 0} (code : C → Effect C) (w : World C) (t : �
   pub stands : (next code meant).configuration ≡ part.thread.configuration
   pub count : k ≡ accesses tally (is_commit (code meant.configuration))
 
--- Steps of thread t, from an outermost begin under a free lock on, between which no other thread makes an access: they
--- never drop the attempt, and make just so many accesses as the meaning's tally says, on the way and in all.
+-- Steps of thread t, from an outermost begin under a free lock, without accesses of other threads in between: they
+-- never abort the attempt, and make exactly as many accesses as the meaning's tally says, on the way and in all.
 abbrev pub CountsByMeaning : {C : Type 0} → (C → Effect C) → World C → ℕ → Type 0
 CountsByMeaning {C} code w t =
     (p : Part C) (us : List ℕ) → BeginsFree code w t p → IsUndisturbed code t us (step code w t) →

@@ -1,4 +1,4 @@
--- Lists of steps with what each thread was answered: the world of a trace.
+-- Lists of steps with each thread's responses: the world of a trace.
 use Rattle.std.specs.Prelude.{◌≡◌, ◌++◌, ℕ, false, List, [], ◌∷◌, Option, None, Some, replicate, slice_set}
 use Rattle.std.specs.List.{slice_get}
 use Rattle.bytecode.specs.Effects.{Effect}
@@ -8,7 +8,7 @@ use Rattle.machine.specs.Threads.{access}
 use Rattle.machine.specs.Worlds.{Part, World, answer, new_world, step}
 use Rattle.norec_core.specs.Accesses.{stops}
 
--- the answers after one step of thread t
+-- the responses after one step of thread t
 abbrev pub heard_of : {C : Type 0} → (C → Effect C) → World C → List (List Heard) → ℕ → Option (Part C) →
     Option (List Heard) → List (List Heard)
 heard_of code w heard t (Some p) (Some hs) = slice_set heard t
@@ -31,7 +31,7 @@ abbrev pub RunsOn : {C : Type 0} → (C → Effect C) → List ℕ → World C �
 RunsOn code [] w = Unit {0}
 RunsOn code (t ∷ ts) w = DoesNotStop code (slice_get w.parts t) × RunsOn code ts (step code w t)
 
--- a world and its answers are those of a trace
+-- a world and its responses are those of a trace
 pub record IsTraced {C : Type 0} (code : C → Effect C) (init : ℕ → C) (m0 : List ℕ) (threads : ℕ) (w : World C)
     (heard : List (List Heard)) : Type 0 where
   pub trace : List ℕ

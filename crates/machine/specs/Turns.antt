@@ -15,7 +15,7 @@ steps_in [] = []
 steps_in (s ∷ spans) = replicate s.1 s.0 ++ steps_in spans
 
 module _ {C : Type 0} (code : C → Effect C) where
-  -- thread t goes no further by itself
+  -- thread t can make no further progress by itself
   pub record RestsIn (w : World C) (t : ℕ) : Type 0 where
     pub part : Part C
     pub there : slice_get w.parts t ≡ Some part
@@ -26,22 +26,22 @@ module _ {C : Type 0} (code : C → Effect C) where
     pub there : slice_get w.parts t ≡ Some part
     pub running : part.thread.status ≡ Running
 
-  -- before each of the next n steps of thread t alone it does not rest
+  -- before each of the next n steps of thread t alone, it is not at rest
   abbrev pub GoesOnFor : World C → (t n : ℕ) → Type 0
   GoesOnFor w t n = (m : ℕ) → m < n → RestsIn (run code (replicate m t) w) t → ⊥
 
-  -- n steps of thread t alone lead to where it rests, for the first time
+  -- n steps of thread t alone lead to its first state at rest
   pub record RestsAfter (w : World C) (t n : ℕ) : Type 0 where
     pub first : GoesOnFor w t n
     pub rests : RestsIn (run code (replicate n t) w) t
 
-  -- A turn of a thread that rests: where it runs, the begin of its transaction and all steps up to where it rests again.
-  -- One that is over makes none.
+  -- A turn of a thread at rest: if it runs, the begin of its transaction and all steps until it rests again. A thread
+  -- that has terminated makes none.
   abbrev pub IsTurnOf : World C → (t n : ℕ) → Type 0
   IsTurnOf w t zero = RunsIn w t → ⊥
   IsTurnOf w t (suc n) = RunsIn w t × RestsAfter (step code w t) t n
 
-  -- each of so many threads, from this one on, is brought to where it rests
+  -- each of this many threads, from this one on, is brought to rest
   abbrev pub AreBegun : World C → (t count : ℕ) → List Span → Type 0
   AreBegun w t zero spans = spans ≡ []
   AreBegun w t (suc count) spans =
@@ -55,7 +55,7 @@ module _ {C : Type 0} (code : C → Effect C) where
       (n : ℕ) × (rest : List Span) × (spans ≡ (t, n) ∷ rest) × IsTurnOf w t n
       × AreTurns (run code (replicate n t) w) order rest
 
-  -- from the new world on each thread is brought to where it rests, and then has its turns of the order
+  -- from the new world on, each thread is brought to rest, and then takes its turns of the order
   pub record AreSpansOf (init : ℕ → C) (m0 : List ℕ) (threads : ℕ) (order : List ℕ) (spans : List Span) : Type 0 where
     pub begun : List Span
     pub turns : List Span

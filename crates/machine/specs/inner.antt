@@ -1,10 +1,10 @@
--- what each step keeps
+-- the invariant of each step
 pub mod Invariant
--- a thread as code keeps it
+-- a thread as code stores it
 pub mod Contexts
--- a thread as code keeps it, with what loads for its reads
+-- a thread as code stores it, with the state that loads for its reads
 pub mod Inside
--- what a thread of a world was answered
+-- the responses that a thread of a world has received
 pub mod Answered
--- what is to be done where a thread stands
+-- the work at a thread's place
 pub mod Doings

@@ -1,4 +1,4 @@
--- Functions that are asked of a memory: each is called without arguments, within a transaction over it.
+-- Functions that are evaluated on a memory: each is called without arguments, in a transaction over it.
 use Rattle.std.specs.Prelude.{◌≡◌, ℕ, List, [], true, false}
 use Rattle.syntax.specs.declared.thread_end.Halt.TheVariants.{Spent, Trapped}
 use Rattle.syntax.specs.declared.thread_end.Trap.{Trap}
@@ -14,27 +14,27 @@ use Rattle.meaning.specs.declared.asked.AskedProgram.{AskedProgram}
 use Rattle.meaning.specs.declared.asked.Reply.{Reply}
 use Rattle.meaning.specs.declared.asked.Reply.TheVariants as reply
 
--- within an atomic transaction over this memory
+-- in an atomic transaction over this memory
 abbrev pub state_over : Memory → (ticks : ℕ) → State
 state_over m n = record { ticks = n; locals = []; context = Inside Atomic m; text = [] }
 
--- what the function of this name does there, the first of 64 frames
+-- the call of the function of this name there, as the first of 64 frames
 abbrev pub asked_over : Program → (name : List ℕ) → Memory → (ticks : ℕ) → Answer Value
 asked_over p x m n = invoke p (calls p 63) x [] (state_over m n)
 
--- a function holds of a memory, with so many ticks: it gives a value that is not 0
+-- a function holds of a memory, with so many ticks: it returns a value that is not 0
 pub record HoldsWithin (p : Program) (x : List ℕ) (m : Memory) (n : ℕ) : Type 0 where
   pub value : Value
   pub after : State
   pub gives : asked_over p x m n ≡ Gives value after
   pub not_zero : is_zero value ≡ false
 
--- it gives 0, or it traps
+-- it returns 0, or it traps
 pub data FailsWithin (p : Program) (x : List ℕ) (m : Memory) (n : ℕ) : Type 0 where
   GivesZero : (v : Value) (s : State) → asked_over p x m n ≡ Gives v s → is_zero v ≡ true → FailsWithin p x m n
   Traps : (k : Trap) (s : State) → asked_over p x m n ≡ Stops (Trapped k) s → FailsWithin p x m n
 
--- it takes more ticks
+-- it needs more ticks
 pub record TakesMore (p : Program) (x : List ℕ) (m : Memory) (n : ℕ) : Type 0 where
   pub state : State
   pub spent : asked_over p x m n ≡ Stops Spent state

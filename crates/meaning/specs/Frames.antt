@@ -1,4 +1,4 @@
--- What stands round a run: the memories that are found later, and what was left and printed before.
+-- The surroundings of a run: the memories found later, and what was left and printed before.
 use Rattle.std.specs.Prelude.{◌≡◌, ℕ, List, [], ◌++◌}
 use Rattle.syntax.specs.declared.thread_end.Halt.TheVariants.{Trapped, Wants, Spent, Astray}
 use Rattle.syntax.specs.Behaviours.{Memory}
@@ -21,8 +21,8 @@ extended_state f s = record {
   text = f.text ++ s.text;
 }
 
--- What an answer says of the answer in a frame. Where it wants a memory, that one wants it too, if there is no further
--- one.
+-- How an answer determines that of the extended state. If it needs a memory, so does the other, unless the extension
+-- has one.
 abbrev pub Alike : {A : Type 0} → StateExtension → Answer A → Answer A → Type 0
 Alike f (Gives a s) more = more ≡ Gives a (extended_state f s)
 Alike f (Stops (Trapped t) s) more = more ≡ Stops (Trapped t) (extended_state f s)
@@ -30,6 +30,6 @@ Alike f (Stops Astray s) more = more ≡ Stops Astray (extended_state f s)
 Alike f (Stops Spent s) more = more ≡ Stops Spent (extended_state f s)
 Alike f (Stops Wants s) more = f.founds ≡ [] → more ≡ Stops Wants (extended_state f s)
 
--- a run does the same whatever stands round it
+-- a run does the same whatever its surroundings
 pub record IsFramed {A : Type 0} (run : Action A) : Type 0 where
   pub alike : (f : StateExtension) (s : State) → Alike f (run s) (run (extended_state f s))

@@ -1,4 +1,4 @@
--- Threads in an order.
+-- Threads whose transactions follow a schedule.
 use Rattle.std.specs.Prelude.{◌≡◌, ℕ, ◌<◌, ◌≤◌, List, map, All}
 use Rattle.syntax.specs.Tree.{Program}
 use Rattle.syntax.specs.Names.{initial_memory}
@@ -11,7 +11,7 @@ use Rattle.meaning.specs.declared.outcome.MeaningFault.{MeaningFault}
 use Rattle.meaning.specs.declared.outcome.MeaningFault.TheVariants as fault
 use Rattle.meaning.specs.Outcomes.{thread_end_in}
 
--- what is told of a thread: its text and its end
+-- the observables of a thread: its text and its end
 abbrev pub text_and_end : Outcome → List ℕ × ThreadEnd
 text_and_end o = (o.text, o.end)
 
@@ -19,7 +19,7 @@ module _ {A : Type 0} where
   abbrev pub report_in : ThreadReport A → List ℕ × ThreadEnd
   report_in r = (r.text.items, thread_end_in r.end)
 
-  -- so many threads of a program in this order, each with so many ticks: the last memory, and what is told of each
+  -- so many threads under this schedule, each with so many ticks: the final memory, and the observables of each thread
   pub record IsInOrder (p : Program) (count ticks : ℕ) (order : List ℕ) (o : SourceOutcome A) : Type 0 where
     pub memory : o.memory.items ≡ (in_order (thread p) (initial_memory p) count ticks order).memory
     pub threads : map report_in o.threads.items
@@ -28,7 +28,7 @@ module _ {A : Type 0} where
 abbrev pub IsThreadCount : ℕ → Type 0
 IsThreadCount threads = (1 ≤ threads) × (threads ≤ 64)
 
--- each entry names one of so many threads
+-- each entry is the number of one of so many threads
 abbrev pub NamesThreads : ℕ → List ℕ → Type 0
 NamesThreads threads order = All (λ t. t < threads) order
 
@@ -37,7 +37,7 @@ number_in fault.OutOfMemory = 0
 number_in fault.Stranger = 55
 number_in fault.WrongThreads = 72
 
--- what a fault says of an order; want of memory says nothing
+-- what a fault implies of a schedule; an allocation failure implies nothing
 abbrev pub IsFaultOfOrder : (threads : ℕ) → List ℕ → MeaningFault → Type 0
 IsFaultOfOrder threads order fault.OutOfMemory = Unit {0}
 IsFaultOfOrder threads order fault.Stranger = IsThreadCount threads × (NamesThreads threads order → ⊥)

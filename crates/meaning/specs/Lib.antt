@@ -1,10 +1,10 @@
--- what is seen of a thread
+-- the observables of a thread
 pub mod Outcomes
--- threads in an order
+-- threads whose transactions follow a schedule
 pub mod InOrder
--- functions that are asked of a memory
+-- functions that are evaluated on a memory
 pub mod Asked
--- what stands round a run
+-- the surroundings of a run
 pub mod Frames
--- what private functions say
+-- definitions for private functions
 pub mod inner

@@ -1,4 +1,4 @@
--- What is seen of a thread.
+-- The observables of a thread.
 use Rattle.std.specs.Prelude.{Vec, ℕ, List, map}
 use Rattle.syntax.specs.declared.thread_end.Halt.TheVariants as halt
 use Rattle.syntax.specs.Behaviours as Behaviours
@@ -20,7 +20,7 @@ module _ {A : Type 0} where
   abbrev pub memories_in : List (Vec ℕ A) → List Memory
   memories_in ms = map (λ v. v.items) ms
 
-  -- each of these is a memory of the program: for each cell a word of its type
+  -- each of these is a memory of the program: it has a word of the cell's type for each cell
   abbrev pub AreMemories : Program → List (Vec ℕ A) → Type 0
   AreMemories p ms = AllByRecursion (IsMemory (bounds p)) (memories_in ms)
 

@@ -1,19 +1,19 @@
--- What private functions say; no public contract cites it.
--- the value that two registers stand for
+-- Definitions for private functions; no public contract cites them.
+-- the value that two registers encode
 pub mod Word
--- the state that a thread of the source holds, and what answers say
+-- the state of a thread of the source, and the meaning of its answers
 pub mod SourceThread
 -- how a call begins
 pub mod Calls
--- what the trees do
+-- the effects of the trees
 pub mod Does
--- what prints a format byte by byte
+-- printing a format byte by byte
 pub mod Printing
 -- threads that take turns
 pub mod Turns
--- what a thread has still to do
+-- a thread's continuation
 pub mod Going
--- what a thread has still to do, as code has it
+-- a thread's continuation, as the code represents it
 pub mod Left
--- how a thread stands
+-- the current state of a thread
 pub mod Standing

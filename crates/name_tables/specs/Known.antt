@@ -1,4 +1,4 @@
--- What tables and scopes hold, as lists of names with what these stand for, in order of declaration.
+-- The contents of tables and scopes, as lists of names with what they denote, in order of declaration.
 use denote.Ref.{Bor}
 use Rattle.std.specs.Prelude.{ℕ, List, map}
 use Rattle.name_tables.specs.declared.entries.LocalEntry.{LocalEntry}

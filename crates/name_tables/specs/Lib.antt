@@ -1,5 +1,5 @@
--- what public contracts cite: lists of names, and what tables and scopes hold
+-- what public contracts cite: lists of names, and the contents of tables and scopes
 pub mod Known
 pub mod Named
--- how tables and scopes keep their names
+-- the representation of names in tables and scopes
 pub mod inner

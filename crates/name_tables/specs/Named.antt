@@ -1,4 +1,4 @@
--- Lists of names with what they stand for, in order of declaration. Of c = 5, d = 7, c = 9 the first c is 5, at index
+-- Lists of names with what they denote, in order of declaration. In c = 5, d = 7, c = 9 the first c is 5, at index
 -- 0, and the newest is 9, at index 2.
 use Rattle.std.specs.Prelude.{ℕ, ◌+◌, List, [], ◌∷◌, ◌++◌, map, position, Option, Some, None, is_some, bytes_eq}
 use Rattle.std.specs.Prelude.{if◌then◌else◌}
@@ -14,7 +14,7 @@ module _ {V : Type 0} where
   abbrev pub first_index : List (List ℕ × V) → List ℕ → Option ℕ
   first_index es x = position (λ n. bytes_eq x n) (map (λ e. e.0) es)
 
-  -- one declaration more: a name keeps what it was first declared as, and a new one goes last
+  -- one more declaration: a name keeps what it was first declared as, and a new one goes last
   abbrev pub with_declaration : List (List ℕ × V) → List ℕ → V → List (List ℕ × V)
   with_declaration es x v = if is_some (first es x) then es else es ++ (x, v) ∷ []
 

@@ -1,4 +1,4 @@
--- What begins save.
+-- The state that begins save.
 use Rattle.std.specs.Prelude.{ℕ, List}
 
 -- for a thread that runs code: the registers of the frame on top, the number of frames, and the begin's place
@@ -7,7 +7,7 @@ pub record Saved : Type 0 where
   pub frames : ℕ
   pub place : ℕ
 
--- an inner begin: what was saved there, and the write log as it was
+-- an inner begin: the state saved there, and the write log at that time
 pub record Checkpoint (S : Type 0) : Type 0 where
   pub saved : S
   pub writes : List (ℕ × ℕ)

@@ -1,6 +1,6 @@
--- what begins save
+-- the state that begins save
 pub mod Begins
--- an attempt's logs and begins as contracts see them
+-- the contracts' view of an attempt's logs and begins
 pub mod Nests
--- how the inner begins lie in their lists
+-- the inner begins in their lists
 pub mod inner

@@ -1,17 +1,17 @@
--- An attempt's logs and begins as its contracts see them: NOrec's two logs, and checkpoints of the write log for the
--- inner transactions, which NOrec has not.
+-- The contracts' view of an attempt's logs and begins: NOrec's two logs, and checkpoints of the write log for the inner
+-- transactions, which NOrec does not have.
 use Rattle.std.specs.Prelude.{◌≡◌, ◌≤◌, ℕ, Bool, List, [], ◌∷◌}
 use Rattle.nesting.specs.Begins.{Saved, Checkpoint}
 
--- the begins that are open
+-- the open begins
 pub record OpenBegins : Type 0 where
   pub saved : Saved  -- at the outermost begin
   pub inner : List (Checkpoint Saved)  -- the inner begins, the innermost first
 
--- an attempt, and for how many inner begins, reads and writes there is room
+-- an attempt, and the spare capacity for inner begins, reads and writes
 pub record Nest : Type 0 where
   pub begins : OpenBegins
-  pub aside : Saved  -- what the next begin saves, or what the last cancel or abort goes back to
+  pub aside : Saved  -- the state that the next begin saves, or that the last cancel or abort returns to
   pub reads : List (ℕ × ℕ)  -- the read log
   pub writes : List (ℕ × ℕ)  -- the write log
   pub kept : Bool  -- whether an irrevocable took the lock
@@ -19,7 +19,7 @@ pub record Nest : Type 0 where
   pub read_room : ℕ
   pub write_room : ℕ
 
--- all but the room is as it was, and no room has gone
+-- all but the capacity is unchanged, and no capacity is lost
 pub record GainsRoom (old new : Nest) : Type 0 where
   pub begins : new.begins ≡ old.begins
   pub aside : new.aside ≡ old.aside
@@ -30,9 +30,9 @@ pub record GainsRoom (old new : Nest) : Type 0 where
   pub read_room : old.read_room ≤ new.read_room
   pub write_room : old.write_room ≤ new.write_room
 
--- A cancel has taken away the inner begins before these, and the first of these: its write log is back, what it saved
--- is set aside, and the others are open. Where none is left the outermost begin is gone too, and what it saved is set
--- aside; the write log stays then, and is of no use.
+-- A cancel has removed the inner begins before these, and the first of these: its write log is restored, its saved
+-- state is set aside, and the others are open. If none is left, the outermost begin is removed too, and its saved state
+-- is set aside; the write log then stays, unused.
 abbrev pub IsCancelled : (old : Nest) → List (Checkpoint Saved) → (new : Nest) → Type 0
 IsCancelled old [] new = (new.aside ≡ old.begins.saved) × (new.writes ≡ old.writes)
 IsCancelled old (l ∷ ls) new =

@@ -1,2 +1,2 @@
--- the checkpoints of lists of what was saved and of marks
+-- the checkpoints of lists of saved states and marks
 pub mod Checkpoints

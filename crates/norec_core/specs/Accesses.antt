@@ -1,11 +1,11 @@
--- The accesses of steps: what answers them, what they cost, and where the lock has no value left.
+-- The accesses of steps: their responses, their costs, and when the lock has no value left.
 use Rattle.std.specs.Prelude.{◌≢◌, ◌==◌, ◌-◌, ◌^◌, ℕ, Bool, false}
 use Rattle.norec_core.specs.declared.step.Access.{Access}
 use Rattle.norec_core.specs.declared.step.Access.TheVariants.{Local, LoadLock, LoadWord, Swap, StoreWord, StoreLock}
 use Rattle.norec_core.specs.declared.step.Answer.{Answer}
 use Rattle.norec_core.specs.declared.step.Answer.TheVariants.{Done, Value, Won, Lost}
 
--- the answer is one to this access. A lost swap finds another value than the one that it swaps from
+-- the response is one to this access. A lost swap finds a value other than the expected one
 abbrev pub IsAnswerTo : Access → Answer → Type 0
 IsAnswerTo Local Done = Unit {0}
 IsAnswerTo LoadLock (Value n) = Unit {0}

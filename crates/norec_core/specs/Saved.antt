@@ -1,16 +1,16 @@
--- What a begin saves, under a map: an attempt whose begins save less shows as one whose begins save all.
+-- The state that a begin saves, under a map: an attempt whose begins save less shows as one whose begins save all.
 use Rattle.std.specs.Prelude.{◌≡◌, Option, None, Some, map}
 use Rattle.norec_core.specs.declared.step.Op.{Op}
 use Rattle.norec_core.specs.declared.step.Answer.{Answer}
 use Rattle.norec_core.specs.Attempts.{Checkpoint, Attempt}
 use Rattle.norec_core.specs.Phases.{CoreStep, core_access, core_step}
 
--- what there is, under a map
+-- an optional value, under a map
 abbrev pub if_some : {S T : Type 0} → (S → T) → Option S → Option T
 if_some f None = None
 if_some f (Some s) = Some (f s)
 
--- an inner begin, an attempt and a step, under a map of what a begin saves
+-- an inner begin, an attempt and a step, under a map of the state that a begin saves
 abbrev pub checkpoint_as : {S T : Type 0} → (S → T) → Checkpoint S → Checkpoint T
 checkpoint_as f k = record { saved = f k.saved; writes = k.writes }
 
@@ -35,7 +35,7 @@ core_step_as f n = record {
   sets_snapshot = n.sets_snapshot;
 }
 
--- a step of the core does the same whatever a begin saves
+-- a step of the core does the same, whatever a begin saves
 pub record Commutes {S T : Type 0} (f : S → T) : Type 0 where
   pub access : (o : Option (Attempt S)) (op : Op) → core_access (if_some (attempt_as f) o) op ≡ core_access o op
   pub step : (now : S) (o : Option (Attempt S)) (op : Op) (answer : Answer) →

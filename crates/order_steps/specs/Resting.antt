@@ -10,7 +10,7 @@ use Rattle.machine.specs.Worlds.{Part, World}
 use Rattle.states.specs.Rests.{IsAtRest}
 
 module _ {C : Type 0} (code : C → Effect C) where
-  -- the machine's thread has no attempt, and is where the code's thread rests; one that wants a memory is at a begin
+  -- the machine's thread has no attempt, and is where the code's thread rests; one that needs a memory is at a begin
   pub record RestsAs (k : Sequential C) (th : Thread C) : Type 0 where
     pub rests : IsAtRest k
     pub outside : k.inside ≡ None

@@ -21,8 +21,8 @@ use Rattle.states.specs.Rests.{Rests, Turn, end_at_rest, text_at_rest}
 use Rattle.states.specs.Shown.{IsOrderAmong, NoneIsSpent, ToldOfThread, memory_in, told_at_rest, told_in}
 use Rattle.order_steps.specs.Resting.{RestsAs, WorldRests}
 
--- some number of steps of thread t alone leave these words and the thread at rest as next: no other part is another
--- one, the lock is the same or two higher, and no step drops an attempt
+-- some number of steps of thread t alone leave these words and the thread at rest as next: no other part changes, the
+-- lock is the same or two higher, and no step aborts an attempt
 pub record ComesToRest {C : Type 0} (code : C → Effect C) (w : World C) (t : ℕ) (left : Memory)
     (next : Sequential C) : Type 0 where
   pub steps : ℕ
@@ -33,11 +33,11 @@ pub record ComesToRest {C : Type 0} (code : C → Effect C) (w : World C) (t : �
   pub rests : RestsAs code next part.thread
   pub locked : (lock ≡ w.lock) ⊎ (lock ≡ w.lock + 2)
   pub undropped : drops code t (replicate steps t) w ≡ 0
-  -- it does not rest on the way
+  -- it is not at rest on the way
   pub turn : IsTurnOf code w t steps
 
--- From every world whose lock is free, where thread t rests as k, wherever the other threads are: a turn of it is some
--- number of its steps alone.
+-- From every world whose lock is free, in which thread t rests as k, whatever the states of the other threads: a turn
+-- of it is some number of its steps alone.
 abbrev pub GetsOn : {C : Type 0} → (C → Effect C) → List ℕ → Type 0
 GetsOn {C} code bounds =
     (w : World C) (t : ℕ) (p : Part C) (k : Sequential C) (left : Memory) (next : Sequential C) →
@@ -61,13 +61,13 @@ OrdersAreSteps {C} code init p =
     × ((t : ℕ) → drops code t ts (new_world init (initial_memory p) (length ks)) ≡ 0)
     × AreStepsOf code init (initial_memory p) (length ks) order ts
 
--- each turn ends where its thread rests for the first time, so that the turns of an order are determined
+-- each turn ends at its thread's first state at rest, so the turns of an order are determined
 abbrev pub TurnsAreDetermined : {C : Type 0} → (C → Effect C) → (ℕ → C) → Type 0
 TurnsAreDetermined code init =
     (m0 : Memory) (threads : ℕ) (order : List ℕ) (xs ys : List Span) → AreSpansOf code init m0 threads order xs →
     AreSpansOf code init m0 threads order ys → xs ≡ ys
 
--- what is told of a thread of the machine that has no attempt and goes no further by itself
+-- the report of a thread of the machine that has no attempt and can make no further progress by itself
 abbrev pub end_when_idle : Status → ThreadEnd
 end_when_idle Running = Stopped Wants
 end_when_idle HasEnded = Ended
@@ -76,7 +76,7 @@ end_when_idle (HasTrapped cause) = Stopped (Trapped cause)
 abbrev pub told_when_idle : {C : Type 0} → Part C → ToldOfThread
 told_when_idle p = (p.thread.text, end_when_idle p.thread.status)
 
--- where an order of the source leads, threads rest
+-- after an order of the source, threads rest
 pub record LeadsToRest {C : Type 0} (code : C → Effect C) (init : ℕ → C) (p : Program) (count ticks : ℕ)
     (order : List ℕ) : Type 0 where
   pub ks : List (Sequential C)
@@ -88,14 +88,14 @@ pub record LeadsToRest {C : Type 0} (code : C → Effect C) (init : ℕ → C) (
   pub memory : memory_in p count ticks order ≡ last
   pub told : told_in p count ticks order ≡ map (told_at_rest end_at_rest text_at_rest) rest
 
--- each order in which no thread is spent leads to threads at rest that show what it shows
+-- each order in which no thread is spent leads to threads at rest that show the same as it
 abbrev pub SourceOrdersLead : {C : Type 0} → (C → Effect C) → (ℕ → C) → Program → Type 0
 SourceOrdersLead code init p =
     (count ticks : ℕ) (order : List ℕ) → count ≤ 2 ^ 32 → IsOrderAmong count order →
     NoneIsSpent (told_in p count ticks order) → LeadsToRest code init p count ticks order
 
--- A list of steps that do not stop leaves a free lock, the memory of an order, and what the order tells of each thread.
--- No step drops an attempt, and the steps are the order's turns.
+-- A list of steps that do not stop leaves a free lock, the memory of an order, and the order's report of each thread.
+-- No step aborts an attempt, and the steps are the order's turns.
 pub record IsStepped {C : Type 0} (code : C → Effect C) (init : ℕ → C) (p : Program) (count ticks : ℕ)
     (order : List ℕ) : Type 0 where
   pub trace : List ℕ

@@ -1,4 +1,4 @@
--- What each fault says of the tokens.
+-- The meaning of each fault.
 use Rattle.std.specs.Prelude.{◌≡◌, ℕ, List, Option, Some, None, Result, Ok, Err}
 use Rattle.lex.specs.declared.token.Span.{Span}
 use Rattle.lex.specs.Tokens.{Tok}
@@ -25,14 +25,14 @@ span_of (fault.Unfinished at) = Some at
 abbrev pub source_of : {A : Type 0} → Tree A → ParsedSource
 source_of u = record { program = program_of u; ends = u.end }
 
--- what a fault says of the tokens; want of memory says nothing
+-- what a fault implies of the tokens; an allocation failure implies nothing
 abbrev pub IsParseFaultOf : List Tok → ParseFault → Type 0
 IsParseFaultOf ts fault.OutOfMemory = Unit {0}
 IsParseFaultOf ts (fault.Unexpected at) = IsUnexpected Spells ts at
 IsParseFaultOf ts (fault.TooDeep at) = IsTooDeep Spells source_depth deepest_program ts at
 IsParseFaultOf ts (fault.Unfinished at) = IsUnfinished Spells ts at
 
--- this program was found, if memory sufficed
+-- this program was found, unless memory ran out
 abbrev pub Finds : {A : Type 0} → ParsedSource → Result (Tree A) ParseFault → Type 0
 Finds s (Ok u) = source_of u ≡ s
 Finds s (Err fault.OutOfMemory) = Unit {0}

@@ -1,10 +1,10 @@
--- The number that tables of a program's names are keyed by.
+-- The number by which tables of a program's names are keyed.
 use Rattle.std.specs.Prelude.{ℕ, List, [], fold, flat_map}
 use Rattle.std.specs.Hash as fed
 use Rattle.std.specs.Hash.DefaultHasher as sip
 use Rattle.lex.specs.Tokens.{Tok, Terminal, name, constant, string_literal, fixed, reserved}
 
--- what a token adds to the hash: a name its bytes and their end, and any other nothing
+-- what a token adds to the hash: a name adds its bytes and their end, any other token nothing
 abbrev pub hash_writes_of : Terminal → fed.HashWrites
 hash_writes_of (name text) = fed.str text
 hash_writes_of (constant _ _) = []

@@ -1,4 +1,4 @@
--- The arrows of a picture: which drops have one, from which glyph to which it leads, and how it is drawn.
+-- The arrows of a picture: which aborts have one, from which glyph to which it leads, and how it is drawn.
 use Rattle.std.specs.Prelude.{ℕ, ◌+◌, ◌*◌, ◌==◌, List, [], ◌∷◌, ◌++◌, Bool, false, nat_lt, codes, decimal, Option}
 use Rattle.std.specs.Prelude.{Some, None, fold, if◌then◌else◌, option_map, option_and_then, option_to_list}
 use Rattle.norec_core.specs.declared.step.Access.{Access}
@@ -23,18 +23,18 @@ abbrev pub last_store : ℕ → List Glyph → Option ArrowEnd
 last_store cell glyphs =
     fold (λ found g. if is_store_to cell g.step.access then Some (end_at g) else found) None glyphs
 
--- the cell for whose word an attempt is dropped in a step
+-- the cell whose value aborts an attempt in a step
 abbrev pub dropped_for : Access → Event → Option ℕ
 dropped_for (LoadWord cell) Abort = Some cell
 dropped_for _ _ = None
 
--- the arrow to a glyph behind others, if it has one: where its step drops an attempt for a word that was stored, from the
+-- the arrow to a glyph after others, if it has one: if its step aborts an attempt because a word was stored, from the
 -- last such store
 abbrev pub arrow_to : List Glyph → Glyph → Option (ArrowEnd × ArrowEnd)
 arrow_to before g = option_map (λ store. (store, end_at g))
     (option_and_then (λ cell. last_store cell before) (dropped_for g.step.access g.step.happening))
 
--- the arrows to glyphs behind others, in their order
+-- the arrows to glyphs after others, in their order
 abbrev pub arrows_behind : List Glyph → List Glyph → List (ArrowEnd × ArrowEnd)
 arrows_behind before [] = []
 arrows_behind before (g ∷ gs) = option_to_list (arrow_to before g) ++ arrows_behind (before ++ g ∷ []) gs

@@ -7,7 +7,7 @@ use Rattle.picture.specs.declared.source.Passage.{Passage}
 use Rattle.picture.specs.Figures.{Figure, figures_text, xml_escape}
 use Rattle.picture.specs.Glyphs.{group_text}
 
--- a byte of a source, as XML wants it: line feeds and tabs stay, carriage returns are left out, and a character that is
+-- a byte of a source, escaped for XML: line feeds and tabs stay, carriage returns are left out, and a character that is
 -- not printable ASCII is shown as one `?`, whose further bytes are left out
 abbrev pub source_escape : ℕ → List ℕ
 source_escape b =
@@ -17,11 +17,11 @@ source_escape b =
 abbrev pub source_xml : List ℕ → List ℕ
 source_xml text = flat_map source_escape text
 
--- a passage of the source is a transaction's where it begins with a transaction's keyword
+-- a passage of the source is a transaction's if it begins with a transaction's keyword
 abbrev pub is_transaction : (source : List ℕ) → Passage → Bool
 is_transaction source p = starts_with (λ a b. a == b) (drop p.start source) (codes "__transaction_")
 
--- what is shown of a passage: its first 1,000 bytes
+-- the part of a passage that is shown: its first 1,000 bytes
 abbrev pub shown_text : (source : List ℕ) → Passage → List ℕ
 shown_text source p = source_xml (take (min p.count 1000) (drop p.start source))
     ++ (if nat_lt 1000 p.count then codes " .." else [])
@@ -30,7 +30,7 @@ shown_text source p = source_xml (take (min p.count 1000) (drop p.start source))
 abbrev pub passage_title : (source : List ℕ) → Passage → List ℕ
 passage_title source p = codes "line " ++ decimal (line_of source p.start) ++ codes ":\n" ++ shown_text source p
 
--- a box: the passage of its transaction, and what is drawn
+-- a box: the passage of its transaction, and its drawing
 pub record TransactionBox : Type 0 where
   pub passage : Passage
   pub figures : List Figure

@@ -2,7 +2,7 @@
 use Rattle.std.specs.Prelude.{ℕ, ◌==◌, List, [], ◌∷◌, ◌++◌, ◌&&◌, nat_le, length, codes, decimal, flat_map}
 use Rattle.std.specs.Prelude.{if◌then◌else◌}
 
--- a byte of words for people, as XML wants it; what is not printable ASCII is shown as `?`
+-- a byte of words for people, escaped for XML; what is not printable ASCII is shown as `?`
 abbrev pub xml_escape : ℕ → List ℕ
 xml_escape b =
     if b == 38 then codes "&amp;" else
@@ -13,8 +13,8 @@ xml_escape b =
 abbrev pub xml : List ℕ → List ℕ
 xml words = flat_map xml_escape words
 
--- Words whose baseline begins at a point, a rectangle by its upper left corner and its size, a line through points, or a
--- symbol at a point. A class says how it looks.
+-- Words whose baseline begins at a point, a rectangle by its upper left corner and its size, a line through points, or
+-- a symbol at a point. A class defines its style.
 pub data Figure : Type 0 where
   Words : (x y : ℕ) (class words : List ℕ) → Figure
   Rectangle : (x y width height : ℕ) (class : List ℕ) → Figure
@@ -25,7 +25,7 @@ pub data Figure : Type 0 where
 abbrev pub measure : List ℕ → ℕ → List ℕ
 measure name value = codes " " ++ name ++ codes "=\"" ++ decimal value ++ codes "\""
 
--- the attribute of a class, where it has a name
+-- the attribute of a class, if it has a name
 abbrev pub class_text : List ℕ → List ℕ
 class_text class = if length class == 0 then [] else codes " class=\"" ++ xml class ++ codes "\""
 

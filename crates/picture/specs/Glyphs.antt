@@ -30,24 +30,24 @@ has_glyph_alone Commit = true
 has_glyph_alone Print = true
 has_glyph_alone Other = false
 
--- a step has a glyph where it is an access, where something happens in it, and where it begins, ends or prints
+-- a step has a glyph if it is an access, if it has an event, or if it begins, commits or prints
 abbrev pub is_noted : Access → Event → LocalAction → Bool
 is_noted access happening action = is_access access || is_eventful happening || has_glyph_alone action
 
--- the first access that is drawn: where it is 0, all is drawn from the beginning, before the first access too
+-- the first access that is drawn: if it is 0, all is drawn from the beginning, even before the first access
 abbrev pub first_drawn : (from : ℕ) → ℕ
 first_drawn from = if from == 0 then 1 else from
 
--- a step after so many accesses is drawn where these are from the first one on, and it is one of 400 or behind one
+-- a step after so many accesses is drawn if they reach the first one, and it is one of 400 or directly follows them
 abbrev pub is_among : (from accesses : ℕ) → Bool
 is_among from accesses = nat_le from accesses && nat_lt accesses (first_drawn from + 400)
 
--- a step is drawn where it has a glyph and is made among these
+-- a step is drawn if it has a glyph and is made among these
 abbrev pub is_drawn : (from accesses : ℕ) → Access → Event → LocalAction → Bool
 is_drawn from accesses access happening action = is_among from accesses && is_noted access happening action
 
--- a step that is drawn: how many accesses all threads had made with it, its thread, its access, what happened in it, and
--- the title of its glyph
+-- a step that is drawn: how many accesses all threads had made with it, its thread, its access, its event, and the
+-- title of its glyph
 pub record DrawnStep : Type 0 where
   pub accesses : ℕ
   pub thread : ℕ
@@ -55,12 +55,12 @@ pub record DrawnStep : Type 0 where
   pub happening : Event
   pub title : List ℕ
 
--- a step's glyph: what is drawn of the step
+-- a step's glyph: the drawing of the step
 pub record Glyph : Type 0 where
   pub step : DrawnStep
   pub figures : List Figure
 
--- the height at which a glyph stands: that of its symbol, which is drawn first
+-- the height of a glyph: that of its symbol, which is drawn first
 abbrev pub height_of : List Figure → ℕ
 height_of (Symbol name x y ∷ figures) = y
 height_of _ = 0

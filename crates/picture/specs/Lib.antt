@@ -2,13 +2,13 @@
 pub mod Figures
 -- its glyphs
 pub mod Glyphs
--- its boxes, and what their titles show of the source
+-- its boxes, and the source text in their titles
 pub mod Boxes
 -- its arrows
 pub mod Arrows
--- all that stands in it
+-- all its elements
 pub mod Pictures
 -- the picture of a replay
 pub mod Replayed
--- what only private functions speak of
+-- definitions for private functions alone
 pub mod inner

@@ -1,4 +1,4 @@
--- The text of a picture: all that stands in it.
+-- The text of a picture: all its elements.
 use Rattle.std.specs.Prelude.{ℕ, ◌≡◌, List, ◌++◌, codes, decimal, flat_map, map}
 use Rattle.picture.specs.declared.arrow.Arrow.{Arrow}
 use Rattle.picture.specs.declared.legend.TheConstants.{STYLE}
@@ -13,21 +13,21 @@ view_box width height = codes " viewBox=\"0 0 " ++ decimal width ++ codes " " ++
 abbrev pub size_text : (width height : ℕ) → List ℕ
 size_text width height = measure (codes "width") width ++ measure (codes "height") height ++ view_box width height
 
--- what a picture is, in words for people
+-- a description of a picture, in words for people
 abbrev pub told_text : (title description : List ℕ) → List ℕ
 told_text title description =
     codes "<title id=\"t\">" ++ xml title ++ codes "</title>\n<desc id=\"d\">" ++ xml description
     ++ codes "</desc>\n"
 
--- the head of a picture, with what its classes and symbols look like
+-- the head of a picture, with the style of its classes and symbols
 abbrev pub head_text : (width height : ℕ) → (title description : List ℕ) → List ℕ
 head_text width height title description =
     codes "<svg xmlns=\"http://www.w3.org/2000/svg\"" ++ size_text width height
     ++ codes " role=\"img\" aria-labelledby=\"t d\">\n" ++ told_text title description ++ STYLE.now
 
 -- A picture of steps of a source: a head, and then figures, boxes, arrows, figures again, and glyphs, of which later
--- ones stand above earlier ones. Each step has a glyph, in their order; and each that drops an attempt an arrow, from
--- the glyph of the last store to the word that had changed to its own. A box is titled by the source's text.
+-- ones cover earlier ones. Each step has a glyph, in their order; and each abort has an arrow, from the glyph of the
+-- last store to the word that had changed to its own. A box is titled by the source's text.
 pub record IsPicture (source : List ℕ) (steps : List DrawnStep) (svg : List ℕ) : Type 0 where
   pub width : ℕ
   pub height : ℕ

@@ -12,7 +12,7 @@ use Rattle.picture.specs.Figures.{xml}
 use Rattle.picture.specs.Glyphs.{DrawnStep, is_drawn}
 use Rattle.picture.specs.Pictures.{IsPicture}
 
--- what an instruction does, where a local step of it has a glyph
+-- the action of an instruction, if a local step of it has a glyph
 abbrev pub action_of : Option Instr → LocalAction
 action_of (Some (Instr.Begin to)) = action.Begin
 action_of (Some Instr.Commit) = action.Commit
@@ -20,7 +20,7 @@ action_of (Some (Instr.PrintText k)) = action.Print
 action_of (Some (Instr.PrintNumber t a)) = action.Print
 action_of _ = action.Other
 
--- what the instruction at a thread's place does; a thread that is over does nothing
+-- the action of the instruction at a thread's program counter; a thread that has terminated has none
 abbrev pub action_at : Code → Status → ℕ → LocalAction
 action_at code Running place = action_of (slice_get code.instructions place)
 action_at code _ place = action.Other

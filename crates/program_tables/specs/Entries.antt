@@ -1,4 +1,4 @@
--- What the entries of a program's tables hold.
+-- The contents of the entries of a program's tables.
 use Rattle.syntax.specs.Tree.{Function, Stmts}
 use Rattle.syntax.specs.Names.{GlobalCells}
 use Rattle.syntax.specs.Types.{Known, Unknown, known_global, known_function}

@@ -1,4 +1,4 @@
--- The functions of a program that have a body. Of `int f(void); int g(void) { .. } int f(void) { .. }` the function g
+-- The functions of a program that have a body. In `int f(void); int g(void) { .. } int f(void) { .. }` the function g
 -- has number 0 and f has number 1.
 use Rattle.std.specs.Prelude.{ℕ, suc, List, [], ◌∷◌, Option, Some, None, if◌then◌else◌, bytes_eq}
 use Rattle.syntax.specs.Tree.{Stmts, Function, Defines, Shares, Program}
@@ -8,14 +8,14 @@ pub record NumberedFunction : Type 0 where
   pub number : ℕ
   pub definition : Function × Stmts
 
--- a function of this name, where it has a body, or else one of the rest
+-- a function of this name, if it has a body, or else one of the rest
 abbrev pub function_first : ℕ → Function → Option Stmts → (ℕ → Option NumberedFunction) → List ℕ →
     Option NumberedFunction
 function_first n f None rest x = rest n
 function_first n f (Some body) rest x =
     if bytes_eq f.name.text x then Some (record { number = n; definition = (f, body) }) else rest (suc n)
 
--- the function of this name, where the first one of these items that has a body has this number
+-- the function of this name, if the first one of these items that has a body has this number
 abbrev pub function_from : ℕ → Program → List ℕ → Option NumberedFunction
 function_from n [] x = None
 function_from n (Shares gs ∷ items) x = function_from n items x

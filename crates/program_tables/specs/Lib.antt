@@ -1,8 +1,8 @@
 -- the functions of a program that have a body, by their names and numbers
 pub mod Functions
--- what the entries of its tables hold
+-- the contents of its tables' entries
 pub mod Entries
--- the program whose tables they are
+-- the program of the tables
 pub mod Views
--- what only private functions, proofs and what the tables keep speak of
+-- definitions for private functions, proofs and the tables' invariants only
 pub mod inner

@@ -1,4 +1,4 @@
--- The program whose tables they are.
+-- The program of the tables.
 use Rattle.syntax.specs.Tree.{Program}
 use Rattle.syntax.specs.Views.{program_of}
 use Rattle.program_tables.specs.declared.program.ProgramTables.{ProgramTables}

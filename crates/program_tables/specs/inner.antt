@@ -1,3 +1,3 @@
--- What only private functions, proofs and what the tables keep speak of.
--- when a table is one of a program
+-- Definitions for private functions, proofs and the tables' invariants only.
+-- when a table belongs to a program
 pub mod Tables

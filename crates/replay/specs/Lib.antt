@@ -1,10 +1,10 @@
 -- schedules as text
 pub mod Schedules
--- schedules of orders
+-- schedules from orders
 pub mod Turns
--- schedules of seeds
+-- schedules from seeds
 pub mod Seeds
--- which steps a schedule names, and what a replay reports
+-- the steps that a schedule names, and the report of a replay
 pub mod Replays
--- what only private functions and proofs speak of
+-- definitions for private functions and proofs only
 pub mod inner

@@ -7,7 +7,7 @@ use Rattle.replay.specs.declared.line.TheConstants.{MOST_STEPS}
 use Rattle.replay.specs.declared.schedule.ScheduleFault.{ScheduleFault}
 use Rattle.replay.specs.declared.schedule.ScheduleFault.TheVariants.{OutOfMemory, BadLine, TooLong}
 
--- spaces alone
+-- only spaces
 abbrev pub AreSpaces : List ℕ → Type 0
 AreSpaces row = AllByRecursion (λ b. b ≡ 32) row
 
@@ -15,13 +15,13 @@ AreSpaces row = AllByRecursion (λ b. b ≡ 32) row
 abbrev pub SpellsNumber : List ℕ → ℕ → Type 0
 SpellsNumber digits n = IsNumeral 10 digits × (digits_value 10 digits ≡ n) × (n < 2 ^ 32)
 
--- the letter before a count, by whether it is one of accesses
+-- the letter before a count, by whether it counts accesses
 abbrev pub letter : Bool → List ℕ
 letter true = codes "a"
 letter false = []
 
--- A row asks for steps: a thread's number, spaces, and a count, which an `a` makes one of accesses. Spaces may stand
--- round the two.
+-- A row requests steps: a thread's number, spaces, and a count, which an `a` makes one of accesses. Spaces may surround
+-- the two.
 pub record Asks (row : List ℕ) (line : Line) : Type 0 where
   pub before : List ℕ
   pub thread : List ℕ
@@ -34,13 +34,13 @@ pub record Asks (row : List ℕ) (line : Line) : Type 0 where
   pub thread_is : SpellsNumber thread line.thread
   pub count_is : SpellsNumber count line.count
 
--- the lines of rows, of which those of spaces alone are none
+-- the lines of rows, of which rows of only spaces have none
 abbrev pub AreRows : List (List ℕ) → List Line → Type 0
 AreRows [] found = found ≡ []
 AreRows (row ∷ rows) found = (AreSpaces row × AreRows rows found)
     ⊎ ((line : Line) × (rest : List Line) × (found ≡ line ∷ rest) × Asks row line × AreRows rows rest)
 
--- the counts of lines, added
+-- the sum of the counts of lines
 abbrev pub counts : List Line → ℕ
 counts [] = 0
 counts (line ∷ found) = line.count + counts found
@@ -53,7 +53,7 @@ AreLines rows found = AreRows rows found × (counts found ≤ MOST_STEPS)
 abbrev pub IsBad : List ℕ → Type 0
 IsBad row = (AreSpaces row → ⊥) × ((line : Line) → Asks row line → ⊥)
 
--- a row and its place, from 0 on, where the rows before it are a schedule of these lines
+-- a row and its index, from 0 on, if the rows before it are a schedule of these lines
 pub record ReadsTo (rows : List (List ℕ)) (row : List ℕ) (at : ℕ) (found : List Line) : Type 0 where
   pub before : List (List ℕ)
   pub after : List (List ℕ)
@@ -61,7 +61,7 @@ pub record ReadsTo (rows : List (List ℕ)) (row : List ℕ) (at : ℕ) (found :
   pub number : length before ≡ at
   pub read : AreLines before found
 
--- what is wrong with rows, by the first one that is bad or asks for too many steps
+-- the fault of rows, by the first one that is bad or requests too many steps
 abbrev pub IsFaultOfRows : List (List ℕ) → ScheduleFault → Type 0
 IsFaultOfRows rows OutOfMemory = Unit {0}
 IsFaultOfRows rows (BadLine n) =

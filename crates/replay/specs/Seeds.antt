@@ -1,4 +1,4 @@
--- Schedules of seeds.
+-- Schedules from seeds.
 use Rattle.std.specs.Prelude.{ℕ, ◌<◌, false}
 use Rattle.rand_core.specs.Pcg32Seed.{pcg32_seed}
 use Rattle.rand_pcg.specs.Lcg.{Lcg}

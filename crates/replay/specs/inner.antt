@@ -1,4 +1,4 @@
--- how a row is cut
+-- how a row is split
 pub mod Rows
 -- how lines are written
 pub mod Written

@@ -1,4 +1,4 @@
--- what the call says
+-- the contract of the call
 pub mod Answers
 -- the sites of a body, and the program's own values of them
 pub mod Sites
@@ -6,11 +6,11 @@ pub mod Views
 -- which functions and programs are safe
 pub mod Safe
 pub mod Faults
--- the least set that keeps to given links, and the links that declarations and sites give
+-- the least set that satisfies given links, and the links of declarations and sites
 pub mod Links
 pub mod SiteLinks
 pub mod Sets
 -- laws
 pub mod Laws
--- what private functions answer
+-- definitions for private functions
 pub mod inner

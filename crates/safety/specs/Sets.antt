@@ -1,4 +1,4 @@
--- What the program's own links and sets of functions say.
+-- The meaning of the program's own links and sets of functions.
 use Rattle.std.specs.Prelude.{ℕ, List, [], ◌∷◌, Option, Some, None, Bool, false, map, option_map, unwrap_or}
 use Rattle.std.specs.Prelude.{slice_index_or}
 use Rattle.name_tables.specs.Named.{first}
@@ -18,7 +18,7 @@ abbrev pub link_if_any : Option OwnLink → List Link
 link_if_any None = []
 link_if_any (Some l) = link_of l ∷ []
 
--- a name is in a set where its number is a member
+-- a name is in a set if its number is a member
 abbrev pub set_by : (List ℕ → Option ℕ) → List Bool → FunctionSet
 set_by numbers members f = unwrap_or (option_map (λ k. slice_index_or members k false) (numbers f)) false
 

@@ -1,4 +1,4 @@
--- The links that functions give by what their declarations and the sites of their bodies say.
+-- The links of functions, from their declarations and the sites of their bodies.
 use Rattle.std.specs.Prelude.{ℕ, List, [], ◌∷◌, ◌++◌, None, Bool, if◌then◌else◌}
 use Rattle.std.specs.List.{flat_map}
 use Rattle.syntax.specs.declared.tree.Attribute.{Attribute}
@@ -6,11 +6,11 @@ use Rattle.syntax.specs.Tree.{Item, Defines, Shares}
 use Rattle.safety.specs.Sites.{Site, body_sites}
 use Rattle.safety.specs.Links.{Link}
 
--- a function is in the set, if this holds
+-- a function is in the set if this holds
 abbrev pub link_if : Bool → List ℕ → List Link
 link_if b f = if b then record { caller = f; callee = None } ∷ [] else []
 
--- the links of an item, by which attributes put the function of a declaration into the set, and by what its sites give
+-- the links of an item: those of the attributes that put a declared function into the set, and those of its sites
 abbrev pub item_links : (List Attribute → Bool) → (List ℕ → Site → List Link) → Item → List Link
 item_links declares own (Defines f) =
     link_if (declares f.attributes) f.name.text ++ flat_map (own f.name.text) (body_sites f.parameters f.body)

@@ -1,5 +1,5 @@
--- The sites of a function's body: where the constructs stand of which the rules on transactions speak
--- (the C++ draft on transactions 1.1), in the order of the text.
+-- The sites of a function's body: the constructs that the rules on transactions restrict (the C++ draft on
+-- transactions 1.1), in the order of the text.
 use Rattle.std.specs.Prelude.{ℕ, List, [], ◌∷◌, ◌++◌, Option, Some, None, Bool, true, false, if◌then◌else◌, bytes_eq}
 use Rattle.syntax.specs.declared.tree.{Mode.TheVariants.Atomic, Mode.TheVariants.Relaxed}
 use Rattle.syntax.specs.declared.tree.{TransactionKind.TransactionKind}
@@ -12,14 +12,14 @@ use Rattle.syntax.specs.Tree.{DoWhile, For, Return, Transaction, Cancel, CancelO
 use Rattle.syntax.specs.Tree.{Program}
 use Rattle.syntax.specs.Typing.{has_name, names_of, parameter_names}
 
--- what of a function's body the rules on transactions speak of: a print, a relaxed transaction, an outer one, a cancel,
+-- a construct that the rules on transactions restrict: a print, a relaxed transaction, an outer one, a cancel,
 -- an outer cancel, a call of a function, and an access to a global
 pub data Construct : Type 0 where
   Prints Relaxes OpensOuter Cancels CancelsOuter : Construct
   Calls : (f : List ℕ) → Construct
   Uses : (x : List ℕ) → Construct
 
--- where a construct stands: inside an atomic transaction of its function, inside an outer one, and inside any
+-- a construct with its surroundings: inside an atomic transaction of its function, inside an outer one, and inside any
 pub record Site : Type 0 where
   pub construct : Construct
   pub span : Span
@@ -27,7 +27,7 @@ pub record Site : Type 0 where
   pub outer : Bool
   pub in_any : Bool
 
--- what surrounds a point of a body: the names of locals, and the transactions
+-- the surroundings of a point of a body: the names of locals, and the transactions
 pub record Around : Type 0 where
   pub locals : List (List ℕ)
   pub atomic : Bool
@@ -51,7 +51,7 @@ kind_site (Plain Atomic) w at = []
 kind_site (Plain Relaxed) w at = site w Relaxes at
 kind_site Outer w at = site w OpensOuter at
 
--- a name that is no local's is a global's
+-- a name that is not a local's is a global's
 abbrev pub uses : Name → Around → List Site
 uses x w = if has_name w.locals x.text then [] else site w (Uses x.text) x.span
 
@@ -75,7 +75,7 @@ abbrev mutual
   exprs_sites Exprs.[] w = []
   exprs_sites (Exprs.◌∷◌ e es) w = expr_sites e w ++ exprs_sites es w
 
--- the sites of what may be missing
+-- the sites of an optional part
 abbrev pub sites_if_any : {A : Type 0} → (A → Around → List Site) → Option A → Around → List Site
 sites_if_any sites None w = []
 sites_if_any sites (Some x) w = sites x w

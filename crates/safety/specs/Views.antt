@@ -1,4 +1,4 @@
--- What the program's own sites say.
+-- The meaning of the program's own sites.
 use Rattle.std.specs.Prelude.{List, map}
 use Rattle.safety.specs.declared.site.Construct.{Construct as OwnConstruct}
 use Rattle.safety.specs.declared.site.Construct.TheVariants as own

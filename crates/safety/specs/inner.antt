@@ -1,4 +1,4 @@
--- What the private functions answer; no public contract cites it.
+-- Definitions for private functions; no public contract cites them.
 -- the first demand that is not met
 pub mod Unmet
 -- the links of unsafe functions
@@ -7,13 +7,13 @@ pub mod UnsafeLinks
 pub mod OuterLinks
 -- the locals at a point
 pub mod Known
--- what a walk adds
+-- the sites that a traversal adds
 pub mod Walks
 -- functions by number, with their callers
 pub mod Graphs
 -- the search for callers
 pub mod Closing
--- sets of functions as the demands read them
+-- sets of functions, in the form that the demands use
 pub mod Rest
--- the links of items, where the sites alone give links
+-- the links of items, if only sites give links
 pub mod SiteLinks

@@ -1,5 +1,5 @@
--- The instructions that are picked for a condition: a value and a jump, for which `!` and comparisons with 0 only say
--- when it is taken, and for `&&` and `||` a first condition with its jump before it.
+-- The instructions that are picked for a condition: a value and a jump, for which `!` and comparisons with 0 only
+-- determine when it is taken, and for `&&` and `||` a first condition with its jump before it.
 use Rattle.std.specs.Prelude.{ℕ, zero, ◌+◌, List, [], ◌∷◌, ◌++◌, map, Bool, true, false, not, if◌then◌else◌, Option}
 use Rattle.std.specs.Prelude.{Some, None}
 use Rattle.syntax.specs.declared.tree.BinaryOp.{BinaryOp}
@@ -15,8 +15,8 @@ use Rattle.selection.specs.declared.draft.Draft.{Draft}
 use Rattle.selection.specs.declared.draft.Draft.TheVariants as draft
 use Rattle.selection.specs.Lists.{Lists}
 
--- instructions, some of which lead to where the condition holds or to where it does not; the lists after them, the
--- register of a value, whether the condition holds where that is 0, and the place behind
+-- instructions, some of which lead to the true exit or to the false exit; the lists after them, the
+-- register of a value, whether the condition holds if that is 0, and the place after them
 pub record Condition : Type 0 where
   pub code : List Draft
   pub lists : Lists
@@ -27,7 +27,7 @@ pub record Condition : Type 0 where
 abbrev pub test_in : Condition → ConditionRegister
 test_in c = record { register = c.register; at_zero = c.at_zero; to = c.to }
 
--- a jump that is taken where a register is 0, or where it is not, and the opposite one
+-- a jump that is taken if a register is 0, or if it is not, and the opposite one
 abbrev pub jump_if : Bool → ℕ → ℕ → Instr
 jump_if true r to = own.JumpZero r to
 jump_if false r to = own.JumpNonzero r to
@@ -36,7 +36,7 @@ abbrev pub jump_if_not : Bool → ℕ → ℕ → Instr
 jump_if_not true r to = own.JumpNonzero r to
 jump_if_not false r to = own.JumpZero r to
 
--- the instruction, once it is known where the condition leads
+-- the instruction, once the exits of the condition are known
 abbrev pub instruction_of_draft : (true_exit false_exit : ℕ) → Draft → Instr
 instruction_of_draft true_exit false_exit (draft.Whole i) = i
 instruction_of_draft true_exit false_exit (draft.ToTrueExit at_zero r) = jump_if at_zero r true_exit
@@ -48,7 +48,7 @@ opposite_draft (draft.Whole i) = draft.Whole i
 opposite_draft (draft.ToTrueExit at_zero r) = draft.ToFalseExit at_zero r
 opposite_draft (draft.ToFalseExit at_zero r) = draft.ToTrueExit at_zero r
 
--- an instruction of the first condition of `&&` and `||`, once it is known where the second one begins
+-- an instruction of the first condition of `&&` and `||`, once the start of the second one is known
 abbrev pub with_second_at : LogicalOp → ℕ → Draft → Draft
 with_second_at AndThen next (draft.Whole i) = draft.Whole i
 with_second_at AndThen next (draft.ToTrueExit at_zero r) = draft.Whole (jump_if at_zero r next)
@@ -62,7 +62,7 @@ abbrev pub short_jump : LogicalOp → ConditionRegister → Draft
 short_jump AndThen t = draft.ToFalseExit (not t.at_zero) t.register
 short_jump OrElse t = draft.ToTrueExit t.at_zero t.register
 
--- a condition with its jump: behind it stands what is done where it holds, or where it does not
+-- a condition with its jump; after it comes the code for the case that it holds, or that it does not
 abbrev pub going_on : List Draft → ConditionRegister → (false_exit : ℕ) → List Instr
 going_on code t false_exit = map (instruction_of_draft (t.to + 1) false_exit) code
     ++ jump_if_not t.at_zero t.register false_exit ∷ []
@@ -94,7 +94,7 @@ abbrev pub is_zero_constant : Expr → Bool
 is_zero_constant (Constant zero t at) = true
 is_zero_constant e = false
 
--- a comparison with 0: whether it holds where the other side is 0
+-- a comparison with 0: whether it holds if the other side is 0
 abbrev pub zero_test : BinaryOp → Expr → Option Bool
 zero_test Equal b = if is_zero_constant b then Some true else None
 zero_test NotEqual b = if is_zero_constant b then Some false else None

@@ -1,5 +1,5 @@
--- The instructions that are picked for an expression. Each part is told its first place and gives the place behind
--- it, so that jumps over it need no further pass. A result that is computed comes into the register `into`, and
+-- The instructions that are picked for an expression. Each part gets its first place and returns the place after it,
+-- so that jumps over it need no further pass. A computed result comes into the register `into`, and only
 -- registers from `free` on may be written.
 use Rattle.std.specs.Prelude.{ℕ, suc, pos, ◌+◌, List, [], ◌∷◌, ◌++◌, length, map, Option, Some, None, option_map, max}
 use Rattle.std.specs.Prelude.{if◌then◌else◌, ◌==◌}
@@ -32,20 +32,20 @@ abbrev pub complementing : Scalar → ℕ → ℕ → Instr
 complementing LongLong d a = own.ComplementLong d a
 complementing t d a = own.Complement d a
 
--- the instruction of a conversion, where there is one
+-- the instruction of a conversion, if there is one
 abbrev pub converting : (s u : Scalar) → Option (ℕ → ℕ → Instr)
 converting Int LongLong = Some own.Extend
 converting LongLong Int = Some own.Low
 converting LongLong Unsigned = Some own.Low
 converting s u = None
 
--- instructions, the lists after them, and where the value lies behind them
+-- instructions, the lists after them, and the location of the value after them
 pub record Emitted : Type 0 where
   pub code : List Instr
   pub lists : Lists
   pub location : ValueRegister
 
--- instructions, the lists after them, the registers of several values, and the place behind
+-- instructions, the lists after them, the registers of several values, and the place after them
 pub record AllEmitted : Type 0 where
   pub code : List Instr
   pub lists : Lists
@@ -74,7 +74,7 @@ then_one e i r t = record {
 abbrev pub constant : ℕ → Scalar → (from into : ℕ) → Lists → Emitted
 constant n t from into l = one (own.Constant into n) from into t l
 
--- the register in which a word is preloaded, where these words are from this register on, as far as registers have
+-- the register in which a word is preloaded, if these words are from this register on, as far as registers have
 -- numbers
 abbrev pub preloaded_from : ℕ → List ℕ → ℕ → Option ℕ
 preloaded_from r [] w = None
@@ -113,18 +113,18 @@ element (Some g) i from into l =
     then_one i (own.ReadAt into i.location.register g.cell (cells g.global)) into g.global.ty
 element None i from into l = constant 0 Int from into l
 
--- a value by a conversion: it lies where it lay, or one instruction makes it
+-- a value by a conversion: it stays where it is, or one instruction computes it
 abbrev pub converted_by : Option (ℕ → ℕ → Instr) → Scalar → Emitted → (into : ℕ) → Emitted
 converted_by None u e into =
     record e { location = record { register = e.location.register; ty = u; to = e.location.to } }
 converted_by (Some i) u e into = then_one e (i into e.location.register) into u
 
--- a value of type s in type u: of an expression that is a constant, that is set as what it is converted to
+-- a value of type s in type u: if the expression is a constant, it is set after conversion
 abbrev pub in_type : (s u : Scalar) → Expr → Emitted → (from into : ℕ) → Lists → Emitted
 in_type s u (Constant n t at) e from into l = constant (constant_in u t n) u from into l
 in_type s u e' e from into l = converted_by (converting s u) u e into
 
--- a value of type s in the first of these types, where there is one
+-- a value of type s in the first of these types, if there is one
 abbrev pub in_first_type : Scalar → List Scalar → Expr → Emitted → (from into : ℕ) → Lists → Emitted
 in_first_type s [] e' e from into l = e
 in_first_type s (u ∷ us) e' e from into l = in_type s u e' e from into l
@@ -161,7 +161,7 @@ both op t a b into = record {
   location = record { register = into; ty = result_type op t; to = b.location.to + 1 };
 }
 
--- the int 1 where a condition holds, and 0 where it does not
+-- the int 1 if a condition holds, and 0 if it does not
 abbrev pub condition_value : Condition → ℕ → Emitted
 condition_value c into =
     let last = c.to in
@@ -177,7 +177,7 @@ condition_value c into =
 abbrev pub value_into : ℕ → Emitted → Emitted
 value_into r e = if e.location.register == r then e else then_one e (own.Move r e.location.register) r e.location.ty
 
--- a condition, and one of two values of this type that lie in one register
+-- a condition, and one of two values of this type that share one register
 abbrev pub conditional_value : Scalar → Condition → Emitted → Emitted → ℕ → Emitted
 conditional_value t c a b into = record {
   code = going_on c.code (test_in c) (a.location.to + 1) ++ a.code ++ own.Jump b.location.to ∷ b.code;
@@ -185,17 +185,17 @@ conditional_value t c a b into = record {
   location = record { register = into; ty = t; to = b.location.to };
 }
 
--- a condition as its operator has it, or else by its value
+-- a condition by its operator, or else by its value
 abbrev pub condition_of : Option Condition → Emitted → Condition
 condition_of None e = by_value e.code e.lists e.location
 condition_of (Some c) e = c
 
--- a condition under a cast, which is tested as it is where no instruction converts it
+-- a condition under a cast, which is tested directly if no instruction converts it
 abbrev pub where_same : Option (ℕ → ℕ → Instr) → Option Condition → Option Condition
 where_same None c = c
 where_same (Some i) c = None
 
--- two conditions, one behind the other
+-- two conditions, one after the other
 abbrev pub joining : LogicalOp → (first second : ℕ → Lists → Condition) → ℕ → Lists → Condition
 joining op first second from l = let a = first from l in logical_condition op a (second (a.to + 1) a.lists)
 
@@ -224,7 +224,7 @@ call_code (Some f) args from into l =
       location = record { register = into; ty = f.ty; to = args.to + 1 };
     }
 
--- the types of what is emitted for variables, elements and calls
+-- the types of the code for variables, elements and calls
 abbrev pub variable_type : Option (ℕ × Scalar) → Option GlobalCells → Scalar
 variable_type (Some x) g = x.1
 variable_type None (Some g) = g.global.ty
@@ -247,7 +247,7 @@ taken_types (Some f) = types_of f.parameters
 taken_types None = []
 
 module _ (p : Program) (scope : LocalScope) where
-  -- the type of what is emitted for an expression
+  -- the type of the code for an expression
   abbrev pub emitted_type : Expr → Scalar
   emitted_type (Variable x) = variable_type (newest scope x.text) (global_of p x.text)
   emitted_type (Constant n t at) = t
@@ -301,7 +301,7 @@ module _ (p : Program) (scope : LocalScope) where
     emit (InTransaction mode keyword e at) from into free l =
         in_own_transaction (emit e (from + 1) into free l)
 
-    -- a condition whose operator says how it is tested
+    -- a condition whose operator determines its test
     pub own_condition : Expr → (from free : ℕ) → Lists → Option Condition
     own_condition (Parenthesized e at) from free l = own_condition e from free l
     own_condition (Cast t e at) from free l = where_same (converting (emitted_type e) t) (own_condition e from free l)

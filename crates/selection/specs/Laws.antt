@@ -1,4 +1,4 @@
--- What is proved of the code that is picked.
+-- Theorems on the picked code.
 use Rattle.std.specs.Prelude.{◌≤◌, ℕ, length}
 use Rattle.syntax.specs.Tree.{Program}
 use Rattle.syntax.specs.Typing.{IsTypedProgram}
@@ -9,11 +9,11 @@ use Rattle.bytecode.specs.Valid.{Has, IsValid}
 use Rattle.lower_spec.specs.Programs.{IsLowered}
 use Rattle.selection.specs.Programs.{picked_code}
 
--- the code that is picked for a typed and safe program stands for it
+-- the code that is picked for a typed and safe program is a lowering of it
 abbrev pub PickedCodeStands : Type 0
 PickedCodeStands = (p : Program) → IsTypedProgram p → ∥ IsSafeProgram p ∥₁ → IsLowered p (picked_code p)
 
--- the limits that a code keeps to beyond what is asked of a typed program
+-- the limits of a code beyond the requirements on a typed program
 pub record IsWithinLimits (code : Code) : Type 0 where
   pub registers : (number : ℕ) (f : FunctionCode) → Has code number f → f.registers ≤ MOST_REGISTERS
   pub instructions : length code.instructions ≤ MOST_INSTRUCTIONS
@@ -23,6 +23,6 @@ abbrev pub PickedCodeIsValid : Type 0
 PickedCodeIsValid =
     (p : Program) → IsTypedProgram p → ∥ IsSafeProgram p ∥₁ → IsWithinLimits (picked_code p) → IsValid (picked_code p)
 
--- for each typed and safe program there is code that stands for it
+-- each typed and safe program has a lowering
 abbrev pub EveryProgramHasCode : Type 0
 EveryProgramHasCode = (p : Program) → IsTypedProgram p → IsSafeProgram p → (code : Code) × IsLowered p code

@@ -1,4 +1,4 @@
--- what a function's name stands for in code, and the lists of a code as it is made
+-- what a function's name denotes in code, and the lists of a code while it is generated
 pub mod Names
 pub mod Lists
 -- the instructions that are picked for conditions, expressions, assignments and declarations, and statements
@@ -6,11 +6,11 @@ pub mod Conditions
 pub mod Expressions
 pub mod Simples
 pub mod Statements
--- the constants with which loops compute
+-- the constant operands in loops
 pub mod Loops
 -- the code that is picked for a program
 pub mod Programs
--- what is proved of the code that is picked
+-- theorems on the picked code
 pub mod Laws
--- what only private functions and proofs speak of
+-- definitions for private functions and proofs only
 pub mod inner

@@ -1,8 +1,8 @@
--- The lists of a code as it is made, but that of its instructions.
+-- The lists of a code while it is generated, except that of its instructions.
 use Rattle.std.specs.Prelude.{ℕ, suc, List, max}
 use Rattle.lower_spec.specs.Expressions.{Layout}
 
--- the arguments of its calls, its texts, the number of registers that its function needs as far as it is made, and the
+-- the arguments of its calls, its texts, the number of registers that its function needs so far, and the
 -- constants that are preloaded in that function
 pub record Lists : Type 0 where
   pub arguments : List ℕ

@@ -1,4 +1,4 @@
--- What a function's name stands for in code.
+-- What a function's name denotes in code.
 use Rattle.std.specs.Prelude.{ℕ, List, Option, option_map, unwrap_or}
 use Rattle.lex.specs.declared.token.Scalar.{Scalar}
 use Rattle.lex.specs.declared.token.Scalar.TheVariants.{Int}

@@ -28,7 +28,7 @@ no_exits result = record {
   gives = unwrap_or result Int;
 }
 
--- a function's body with these constants, and a return where that runs off its end
+-- a function's body with these constants, and a return if that runs off its end
 abbrev pub body_with : Layout → Program → Function → Stmts → ℕ → Lists → Written
 body_with layout p f body from l =
     let first = record l { registers = length f.parameters; layout = layout } in
@@ -43,7 +43,7 @@ abbrev pub all_set : ℕ → List ℕ → List Instr
 all_set r [] = []
 all_set r (w ∷ ws) = own.Constant r w ∷ all_set (suc r) ws
 
--- a body that finds these constants preloaded, and in front of it the instructions that set them
+-- a body that finds these constants preloaded, and before it the instructions that set them
 abbrev pub body_preloaded : Layout → Program → Function → Stmts → ℕ → Lists → Written
 body_preloaded layout p f body from l =
     let made = body_with layout p f body (from + length layout.constants) l in
@@ -53,8 +53,8 @@ body_preloaded layout p f body from l =
       to = made.to;
     }
 
--- a body as it stands, where its loops compute with no constants or a function may not have so many registers; or else
--- one that finds them preloaded, in registers behind all those of the body as it stands
+-- a body unchanged, if its loops have no constant operands or a function may not have so many registers; or else
+-- one that finds them preloaded, in registers after all those of the unchanged body
 abbrev pub body_better : Program → Function → Stmts → ℕ → Lists → (plain : Written) → (constants : List ℕ) → Written
 body_better p f body from l plain [] = plain
 body_better p f body from l plain (w ∷ ws) =
@@ -85,7 +85,7 @@ abbrev pub put_before : FunctionCode → Written → FunctionCodes → FunctionC
 put_before g w rest =
     record { functions = g ∷ rest.functions; code = w.code ++ rest.code; lists = rest.lists; to = rest.to }
 
--- a function's code, where it has a body, and then the rest
+-- a function's code, if it has a body, and then the rest
 abbrev pub made_first : Program → Function → Option Stmts → (ℕ → Lists → FunctionCodes) → ℕ → Lists → FunctionCodes
 made_first p f None rest from l = rest from l
 made_first p f (Some body) rest from l =

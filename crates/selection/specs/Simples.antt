@@ -20,13 +20,13 @@ use Rattle.selection.specs.Expressions.{Emitted, above, one, constant, preloaded
 use Rattle.selection.specs.Expressions.{converted_by}
 use Rattle.selection.specs.Expressions.{both, emitted_type, emit, operand}
 
--- instructions, the lists after them, and the place behind them
+-- instructions, the lists after them, and the place after them
 pub record Written : Type 0 where
   pub code : List Instr
   pub lists : Lists
   pub to : ℕ
 
--- instructions that find out where an assignment goes
+-- instructions that determine the target of an assignment
 pub record Aimed : Type 0 where
   pub code : List Instr
   pub lists : Lists
@@ -44,7 +44,7 @@ variable_target (Some x) g from l = aimed_at (target.Local x.0 x.1) from (with_r
 variable_target None (Some g) from l = aimed_at (target.Cell g.cell g.global.ty) from l
 variable_target None None from l = aimed_at target.Nowhere from l
 
--- an element's index is computed first, and tested where nothing is read there at once
+-- an element's index is computed first, and tested if nothing is read there at once
 abbrev pub checked_by : Bool → ℕ → ℕ → List Instr
 checked_by true i n = own.Check i n ∷ []
 checked_by false i n = []
@@ -62,7 +62,7 @@ element_target check (Some g) i from l = record {
   to = i.location.to + checks check;
 }
 
--- the first register that a target leaves
+-- the first register that a target leaves free
 abbrev pub above_target : AssignmentTarget → ℕ → ℕ
 above_target (target.Element i cell n t) free = above free i
 above_target t free = free
@@ -74,7 +74,7 @@ target_value (target.Cell c t) from free l = one (own.Read free c) from free t l
 target_value (target.Element i c n t) from free l = one (own.ReadAt free i c n) from free t l
 target_value target.Nowhere from free l = constant 0 Int from free l
 
--- the register that the value takes: a local's own, or else a free one
+-- the register that receives the value: a local's own, or else a free one
 abbrev pub home_or : AssignmentTarget → ℕ → ℕ
 home_or (target.Local i t) free = i
 home_or t free = free
@@ -82,26 +82,26 @@ home_or t free = free
 abbrev pub one_written : Instr → ℕ → Lists → Written
 one_written i from l = record { code = i ∷ []; lists = l; to = from + 1 }
 
--- a value goes to its target, where it does not lie there already
+-- a value goes to its target, unless it is there already
 abbrev pub target_store : AssignmentTarget → ℕ → ℕ → Lists → Written
 target_store (target.Local i t) a from l = if a == i then nothing_written from l else one_written (own.Move i a) from l
 target_store (target.Cell c t) a from l = one_written (own.Write a c) from l
 target_store (target.Element i c n t) a from l = one_written (own.WriteAt i a c n) from l
 target_store target.Nowhere a from l = nothing_written from l
 
--- the type of what lies at a target
+-- the type of a target's contents
 abbrev pub type_at : AssignmentTarget → Scalar
 type_at (target.Local i t) = t
 type_at (target.Cell c t) = t
 type_at (target.Element i c n t) = t
 type_at target.Nowhere = Int
 
--- the instruction of a conversion on the way to a cell, where the write does not take the lower half by itself
+-- the instruction of a conversion on the way to a cell, unless the write truncates to the lower half by itself
 abbrev pub widening : (s u : Scalar) → Option (ℕ → ℕ → Instr)
 widening Int LongLong = Some own.Extend
 widening s u = None
 
--- the instruction that a value of this type asks for on its way to a target
+-- the instruction that a value of this type needs on its way to a target
 abbrev pub taking : AssignmentTarget → Scalar → Option (ℕ → ℕ → Instr)
 taking (target.Local i t) s = converting s t
 taking (target.Cell c t) s = widening s t
@@ -112,12 +112,12 @@ taking target.Nowhere s = None
 abbrev pub fitting : AssignmentTarget → Scalar → Emitted → (into : ℕ) → Emitted
 fitting t s e into = converted_by (taking t s) (type_at t) e into
 
--- an expression's value on its way to a target: a constant is set as what it is converted to
+-- an expression's value on its way to a target: a constant is set after conversion
 abbrev pub expr_fitting : AssignmentTarget → Scalar → Expr → Emitted → (from into : ℕ) → Lists → Emitted
 expr_fitting t s (Constant n x at) e from into l = constant (constant_in (type_at t) x n) (type_at t) from into l
 expr_fitting t s e' e from into l = fitting t s e into
 
--- two stretches of instructions, one after another
+-- two fragments of instructions, one after another
 abbrev pub and_then : Written → Written → Written
 and_then a b = record { code = a.code ++ b.code; lists = b.lists; to = b.to }
 
@@ -135,7 +135,7 @@ abbrev pub emitted_one : Scalar → (from free : ℕ) → Lists → Emitted
 emitted_one u from free l = preloaded_or (preloaded l.layout 1 u from) l (constant 1 u from free l)
 
 module _ (p : Program) (scope : LocalScope) where
-  -- where an assignment goes, with the test of an index or without it
+  -- the target of an assignment, with a test of the index or without
   abbrev pub target_code : Bool → Expr → (from free : ℕ) → Lists → Aimed
   target_code check (Variable x) from free l = variable_target (newest scope x.text) (global_of p x.text) from l
   target_code check (Element x i at) from free l =
@@ -147,7 +147,7 @@ module _ (p : Program) (scope : LocalScope) where
   value_or_one u None from free l = emitted_one u from free l
   value_or_one u (Some e) from free l = operand p scope u e from free l
 
-  -- the own type of an operator's right side, and int of the 1 that is added or subtracted
+  -- the type of an operator's right side, and int for the 1 that is added or subtracted
   abbrev pub type_or_int : Option Expr → Scalar
   type_or_int None = Int
   type_or_int (Some e) = emitted_type p scope e
@@ -163,7 +163,7 @@ module _ (p : Program) (scope : LocalScope) where
       let later = above_target t.target free in
       behind t (then_stored t.target (stored_value t.target e t.to (home_or t.target later) later t.lists))
 
-  -- the old value, another one, and the operator on both, as it goes into the old one's place
+  -- the old value, another one, and the operator on both, whose result replaces the old value
   abbrev pub compound_value : BinaryOp → Option Expr → AssignmentTarget → (from free : ℕ) → Lists → Emitted
   compound_value op by t from free l =
       let s = type_at t in
@@ -185,13 +185,13 @@ module _ (p : Program) (scope : LocalScope) where
   simple_written (Assign lhs (Some op) e) from free l = compound_code op lhs (Some e) from free l
   simple_written (Adjust lhs by) from free l = compound_code (op_of by) lhs None from free l
 
--- the first value of the local in this register, behind which the registers are free
+-- the first value of the local in this register, after which the registers are free
 abbrev pub first_written : Program → LocalScope → ℕ → Scalar → Option Expr → ℕ → Lists → Written
 first_written p scope i t None from l = nothing_written from l
 first_written p scope i t (Some e) from l =
     then_stored (target.Local i t) (stored_value p scope (target.Local i t) e from i (suc i) l)
 
--- a declared local is 0 and then has its first value
+-- a declared local is set to 0 and then has its first value
 abbrev pub declarator_written : Program → Scalar → Declarator → LocalScope → ℕ → Lists → Written
 declarator_written p t d scope from l =
     let i = length scope in

@@ -1,5 +1,5 @@
--- The instructions that are picked for statements. A loop is tested at its bottom. In front of it stand a jump and
--- jumps: places that are known before the body is made, from which a break and a continue go on.
+-- The instructions that are picked for statements. A loop is tested at its bottom, after a jump to its test or body and
+-- jumps for breaks and continues, whose places are known before the body is generated.
 use Rattle.std.specs.Prelude.{ℕ, zero, suc, ◌+◌, List, [], ◌∷◌, ◌++◌, length, replicate, Option, Some, None}
 use Rattle.lex.specs.declared.token.Scalar.{Scalar}
 use Rattle.lex.specs.declared.token.Scalar.TheVariants.{Int, Unsigned, LongLong}
@@ -23,7 +23,7 @@ use Rattle.selection.specs.Simples.{declared_written, start_written}
 abbrev pub left_by : ℕ → Instr → ℕ → Lists → Written
 left_by n i from l = record { code = replicate n own.Commit ++ i ∷ []; lists = l; to = from + n + 1 }
 
--- how many transactions are open from the innermost outer one on, it too; 0 where there is none
+-- how many transactions are open from the innermost outer one on, including it; 0 if there is none
 abbrev pub level_in : TransactionKind → ℕ → ℕ
 level_in Outer n = 1
 level_in (Plain mode) zero = 0
@@ -44,7 +44,7 @@ cancelling n = own.CancelOuter n
 abbrev pub looping : Exits → (break_to continue_to : ℕ) → Exits
 looping x break_to continue_to = record x { break_to = break_to; continue_to = continue_to; in_loop = 0 }
 
--- a condition, a jump to the place behind the branch where it does not hold, and the branch
+-- a condition, a jump to the place after the branch if it does not hold, and the branch
 abbrev pub if_code : Condition → Written → Written
 if_code c a = record { code = going_on c.code (test_in c) a.to ++ a.code; lists = a.lists; to = a.to }
 
@@ -55,7 +55,7 @@ branched_twice c a b = record {
   to = b.to;
 }
 
--- a condition, and a jump where it holds
+-- a condition, and a jump if it holds
 abbrev pub tested_back : Condition → ℕ → Written
 tested_back c to = record { code = going_back c.code (test_in c) to; lists = c.lists; to = c.to + 1 }
 
@@ -84,7 +84,7 @@ for_written start a step test = record {
   to = test.to;
 }
 
--- a cancel goes on behind the commit
+-- a cancel continues after the commit
 abbrev pub transaction_code : Written → Written
 transaction_code a = record { code = own.Begin (a.to + 1) ∷ a.code ++ own.Commit ∷ []; lists = a.lists; to = a.to + 1 }
 

@@ -10,11 +10,11 @@ use Rattle.separation.specs.Touching.{IsTouchingSet, IsTouching, IsAccepted, IsS
 abbrev pub TouchingIsTouchingSet : Type 0
 TouchingIsTouchingSet = (p : Program) → IsTouchingSet p (IsTouching p)
 
--- where there is a fault of separation, worker touches
+-- if there is a fault of separation, worker touches
 abbrev pub FaultTouches : Type 0
 FaultTouches = (p : Program) (n : ℕ) (at : Span) → IsSeparationFault n at p → IsTouching p (codes "worker")
 
--- no thread of an accepted program goes astray, whatever its number, the memories that it finds and its ticks
+-- no thread of an accepted program goes wrong, for any thread number, pre-states and ticks
 abbrev pub NeverAstray : Type 0
 NeverAstray =
     (p : Program) → IsAccepted p → (t : ℕ) (founds : List Memory) (n : ℕ) → (thread p t founds n).end ≢ Stopped Astray

@@ -1,8 +1,8 @@
--- what the call says
+-- the contract of the call
 pub mod Answers
 -- which functions touch, and which programs are accepted
 pub mod Touching
 -- laws
 pub mod Laws
--- what private functions answer
+-- definitions for private functions
 pub mod inner

@@ -1,4 +1,4 @@
--- What the private functions answer; no public contract cites it.
+-- Definitions for private functions; no public contract cites them.
 -- the first demand that is not met
 pub mod Unmet
 -- the links of touching functions

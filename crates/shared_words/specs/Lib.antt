@@ -1,10 +1,10 @@
--- what a table of words is opened for
+-- the parameters of a table of words
 pub mod Setup
--- what a seat of the table knows
+-- the knowledge of a seat of the table
 pub mod Views
--- the rule of the table, and what an access tells
+-- the invariant of the table, and the response of an access
 pub mod Rule
--- what the rule says, in terms of runs
+-- the rule's claims, in terms of runs
 pub mod Saying
--- what only private functions and proofs speak of
+-- definitions for private functions and proofs only
 pub mod inner

@@ -1,4 +1,4 @@
--- What a seat knows: a part for each thread that it speaks for.
+-- The knowledge of a seat: a part for each thread that it represents.
 use Rattle.std.specs.Prelude.{◌≡◌, ◌⊎◌, ℕ, zero, suc, ◌+◌, ◌==◌, if◌then◌else◌, List, [], ◌∷◌, length}
 use Rattle.bytecode.specs.Code.{Configuration}
 use Rattle.machine.specs.Answered.{Heard}
@@ -6,11 +6,10 @@ use Rattle.machine.specs.Worlds.{Part, new_part}
 use Rattle.bytecode.specs.Beginning.{beginning}
 use Rattle.shared_words.specs.Setup.{Setup}
 
--- The machine's part of the thread as of the seat's last access, the answers so far, and a floor: a lock value that no
--- answer after the first floor_at of them is below. What the seat has seen is all steps of all threads that were made
--- when it last looked at a word, in the order in which they were made; the local ones of a thread count as made with
--- the access that follows them. So many of these steps as made says were the thread's own. The setup is the table's
--- key, which a step's promise cannot read.
+-- The machine's part of the thread as of the seat's last access, the responses so far, and a floor: a lock value that
+-- no response after the first floor_at of them is below. The seat has seen all steps of all threads up to its last
+-- access, in the order in which they were made; a thread's local steps count as made with its next access. The field
+-- made counts those of the thread itself. The setup is the table's key, which a step's promise cannot read.
 pub record ViewPart : Type 0 where
   pub setup : Setup
   pub number : ℕ
@@ -62,10 +61,10 @@ abbrev pub first_parts : Setup → ℕ → ℕ → List ViewPart
 first_parts key from zero = []
 first_parts key from (suc count) = first_part key from ∷ first_parts key (suc from) count
 
--- what the first seat knows: all threads at their beginning
+-- the knowledge of the first seat: all threads at their beginning
 abbrev pub first_view : Setup → List ViewPart
 first_view key = first_parts key 0 key.threads
 
--- from now on no lock value below n is answered, and these steps were made
+-- from now on no response has a lock value below n, and these steps were made
 abbrev pub with_floor : ℕ → List ℕ → ViewPart → ViewPart
 with_floor n ts p = record p { floor = n; floor_at = length p.heard; seen = ts }

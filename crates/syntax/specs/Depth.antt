@@ -26,7 +26,7 @@ abbrev pub optional_depth : Option Expr → ℕ
 optional_depth None = 0
 optional_depth (Some e) = expr_depth e
 
--- the depth of an expression, an assignment or a step as the statement with a semicolon behind it
+-- the depth of an expression, an assignment or a step as a statement with its semicolon
 abbrev pub simple_depth : Simple → ℕ
 simple_depth (Evaluate e) = expr_depth e + 1
 simple_depth (Assign to op e) = max (expr_depth to) (expr_depth e) + 1

@@ -1,15 +1,15 @@
--- What stands at an index of a format, and where the rest begins.
+-- The directive at an index of a format, and where the rest begins.
 use Rattle.std.specs.Prelude.{◌≡◌, ℕ, ◌-◌, ◌<◌, ◌≤◌, List, ◌∷◌, length, drop, Bool, ◌==◌, ◌&&◌, if◌then◌else◌}
 use Rattle.syntax.specs.Tree.{Scalar}
 use Rattle.syntax.specs.Formats.{Specifier, literal, pieces, is_format}
 use Rattle.syntax.specs.declared.format.FormatDirective as D
 use Rattle.syntax.specs.declared.format.FormatDirective.TheVariants as directive
 
--- so many bytes say a byte of literal text: two a percent sign, and one any other
+-- this many bytes spell a literal byte: two for a percent sign, and one for any other
 abbrev pub says : ℕ → ℕ → Bool
 says bytes c = if c == 37 then bytes == 2 else bytes == 1
 
--- a byte of literal text stands here, or a number; and whether all from here on is a format
+-- a literal byte is here, or a number; and whether all from here on is a format
 pub record IsByteAt (c next : ℕ) (format : List ℕ) (i : ℕ) : Type 0 where
   pub is : pieces (drop i format) ≡ literal c (pieces (drop next format))
   pub right : is_format (drop i format) ≡ (says (next - i) c && is_format (drop next format))

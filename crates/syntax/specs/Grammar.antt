@@ -20,9 +20,9 @@ use Rattle.syntax.specs.Depth.{program_depth}
 use Rattle.syntax.specs.Phrases.{Phrase, One, Nil, never, ◌⨾◌, ◌∣◌, phrase_if, Many, Sign, Word, IsAt, Listed, spanning}
 use Rattle.syntax.specs.Phrases.{end_of}
 
--- ---- what single tokens say (C11 6.4)
+-- ---- single tokens (C11 6.4)
 
--- what a keyword or punctuator says by a table
+-- the value of a keyword or punctuator, by a table
 abbrev pub by_fixed : {A : Type 0} → (Fixed → Option A) → Terminal → Option A
 by_fixed table (Terminal.fixed k) = table k
 by_fixed table _ = None
@@ -47,7 +47,7 @@ integer_constant_in _ at = None
 abbrev pub the_integer_constant : Tok → Option IntegerConstant
 the_integer_constant t = integer_constant_in t.terminal t.span
 
--- what a string stands for, and its span
+-- the bytes that a string denotes, and its span
 abbrev pub text_in : Terminal → Span → Option (List ℕ × Span)
 text_in (Terminal.string_literal s) at = Some (string_value s, at)
 text_in _ at = None
@@ -68,7 +68,7 @@ attribute_in _ = None
 abbrev pub the_attribute : Tok → Option Attribute
 the_attribute t = attribute_in t.terminal
 
--- the word that makes a transaction, or a cancel, an outer one
+-- the keyword of a transaction, or a cancel, an outer one
 abbrev pub outer_in : Terminal → Option (Unit {0})
 outer_in (Terminal.name s) = if bytes_eq s (codes "outer") then Some tt else None
 outer_in _ = None
@@ -144,7 +144,7 @@ the_step t = by_fixed step_of t.terminal
 
 -- ---- levels (C11 6.5.3 to 6.5.15)
 
--- how tightly an operator binds, from ?: at 0 up to names at 12
+-- the precedence of an operator, from ?: at 0 up to names at 12
 abbrev pub precedence : BinaryOp → ℕ
 precedence Or = 3
 precedence Xor = 4
@@ -175,7 +175,7 @@ level (Unary op e at) = 11
 level (Cast t e at) = 11
 level e = 12
 
--- operands of an operator that groups to the left
+-- operands of a left-associative operator
 abbrev pub Groups : ℕ → Expr → Expr → Type 0
 Groups n a b = (n ≤ level a) × (n < level b)
 
@@ -215,7 +215,7 @@ abbrev mutual
   arguments Exprs.[] = Nil
   arguments (Exprs.◌∷◌ e es) = expr e ⨾ further es
 
-  -- further arguments, each behind a comma
+  -- further arguments, each after a comma
   pub further : Exprs → Phrase
   further Exprs.[] = Nil
   further (Exprs.◌∷◌ e es) = Sign punct.Comma ⨾ expr e ⨾ further es
@@ -250,7 +250,7 @@ outer_phrase =
     ∣ Word key.Attribute ⨾ Sign punct.OpenParen ⨾ Sign punct.OpenParen ⨾ One the_outer tt ⨾ Sign punct.CloseParen
     ⨾ Sign punct.CloseParen
 
--- how a transaction's statement begins, with its keyword at this span (the C++ draft on transactions 1.1, in GCC's
+-- the head of a transaction's statement, with its keyword at this span (the C++ draft on transactions 1.1, in GCC's
 -- words for C)
 abbrev pub kind : TransactionKind → Span → Phrase
 kind (Plain mode) at = IsAt (mode_keyword mode) at
@@ -290,7 +290,7 @@ abbrev mutual
   stmt (Cancel at) = IsAt (Keyword key.Cancel) at ⨾ Sign punct.Semicolon
   stmt (CancelOuter at) = IsAt (Keyword key.Cancel) at ⨾ outer_phrase ⨾ Sign punct.Semicolon
 
-  -- what stands in a block: declarations too
+  -- the items of a block: declarations too
   pub stmts : Stmts → Phrase
   stmts Stmts.[] = Nil
   stmts (Stmts.◌∷◌ (Declare d) ss) = declaration d ⨾ stmts ss
@@ -312,7 +312,7 @@ abbrev pub attributes_of : List (List Attribute) → List Attribute
 attributes_of [] = []
 attributes_of (words ∷ rest) = words ++ attributes_of rest
 
--- lists of attributes, which say these in all (the C++ draft on transactions 1.1: `transaction_safe`,
+-- lists of attributes, which amount to these (the C++ draft on transactions 1.1: `transaction_safe`,
 -- `transaction_callable` and so on)
 abbrev pub attributes : List Attribute → Phrase
 attributes words ts = (lists : List (List Attribute)) × (words ≡ attributes_of lists) × Many attribute_list lists ts
@@ -403,7 +403,7 @@ pub record ParsedSource : Type 0 where
 abbrev pub Spells : ParsedSource → Phrase
 Spells s ts = Many item s.program ts × (s.ends ≡ end_of ts)
 
--- how deep a program may be
+-- the depth limit of a program
 abbrev pub deepest_program : ℕ
 deepest_program = 100
 

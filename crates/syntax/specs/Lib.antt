@@ -1,9 +1,8 @@
--- programs as plain trees, what the Rust trees stand for, and how deep they are
+-- programs as plain trees, the meaning of the Rust trees, and how deep they are
 pub mod Tree
 pub mod Views
 pub mod Depth
--- numbers, what names stand for, the types of expressions, and formats with
--- what stands at their indices
+-- numbers, what names denote, the types of expressions, and formats with their directives
 pub mod Numbers
 pub mod Names
 pub mod Types
@@ -11,17 +10,16 @@ pub mod Formats
 pub mod FormatDirectives
 -- the rules of types, and the order of faults
 pub mod Typing
--- what is told of a rule that is broken
+-- the report of a violated rule
 pub mod Violations
--- what threads do and how they stand in a run, for source and code alike
+-- the behaviour of threads and their states in a run, for source and code alike
 pub mod Behaviours
--- the few words that the meaning is said in, and the meaning of expressions, statements, calls, threads and orders of
--- threads
+-- the primitives of the meaning, and the meaning of expressions, statements, calls, threads and orders of threads
 pub mod Actions
 pub mod Meaning
 pub mod Threads
 pub mod Orders
--- what is proved of the meaning
+-- theorems on the meaning
 pub mod Laws
 pub mod ScopeLaws
 pub mod OrderLaws

@@ -1,4 +1,4 @@
--- What expressions and statements do (C11 6.5, 6.8), from left to right.
+-- The meaning of expressions and statements (C11 6.5, 6.8), evaluated from left to right.
 use Rattle.std.specs.Prelude.{ℕ, zero, suc, ◌+◌, pos, List, [], ◌∷◌, ◌++◌, length, take, Option, Some, None}
 use Rattle.std.specs.Prelude.{if◌then◌else◌, Bool, true, false, not, nat_lt, unwrap_or, option_map}
 use Rattle.std.specs.Fmt.{signed_decimal}
@@ -18,7 +18,7 @@ use Rattle.syntax.specs.Actions.{Context, Outside, Inside, State, Answer, Gives,
 use Rattle.syntax.specs.Actions.{◌>>=◌, ◌>>◌, tick, trap, or_trap, or_astray, locals, put_locals, load, store}
 use Rattle.syntax.specs.Actions.{may_print, print_piece, memory_in}
 
--- where a value stands: in a local variable, by its index among the locals, or in a shared cell
+-- an lvalue: a local variable, by its index among the locals, or a shared cell
 pub data Lvalue : Type 0 where
   InLocal : (i : ℕ) (ty : Scalar) → Lvalue
   InCell : (cell : ℕ) (ty : Scalar) → Lvalue
@@ -46,12 +46,12 @@ pub data Completion : Type 0 where
   Returns : (v : Value) → Completion
   Cancels CancelsOuter : Completion
 
--- the rest follows where the first has come to its end
+-- the rest follows if the first completes normally
 abbrev pub on_next : Action Completion → Completion → Action Completion
 on_next rest Next = rest
 on_next rest end = pure end
 
--- a stretch with names of its own: they are gone at its end
+-- a scope: its names are gone at its end
 abbrev pub in_scope : Action Completion → Action Completion
 in_scope run = do
   outer ← locals
@@ -60,21 +60,21 @@ in_scope run = do
   put_locals (take (length outer) all)
   pure end
 
--- after a turn, which tells how the loop ends, if it does
+-- after an iteration, which may end the loop
 abbrev pub after_turn : Action Completion → Option Completion → Action Completion
 after_turn rest None = rest
 after_turn rest (Some end) = pure end
 
--- at most so many turns, each for a tick
+-- at most this many iterations, each for a tick
 abbrev pub turns : ℕ → Action (Option Completion) → Action Completion
 turns zero turn = stop Spent
 turns (suc n) turn = tick >> (turn >>= after_turn (turns n turn))
 
--- a loop: since each turn takes a tick, there are never more turns than ticks
+-- a loop: since each iteration takes a tick, there are never more iterations than ticks
 abbrev pub loop : Action (Option Completion) → Action Completion
 loop turn s = turns s.ticks turn s
 
--- what the end of a loop's body says of the loop, where the next thing is to go on with
+-- how the end of a loop's body affects the loop, which may continue with the next action
 abbrev pub after_body : Action (Option Completion) → Completion → Action (Option Completion)
 after_body go Next = go
 after_body go Continues = go
@@ -95,8 +95,7 @@ undoes Cancels kind = true
 undoes CancelsOuter Outer = true
 undoes end kind = false
 
--- what a transaction leaves: one that is undone leaves shared memory and locals as they were, and the run goes on after
--- it
+-- the effects of a transaction: one that is undone restores shared memory and locals, and the run continues after it
 pub record Left : Type 0 where
   pub end : Completion
   pub locals : List Local
@@ -109,7 +108,7 @@ left_or false mine found end now = record { end = end; locals = now.locals; memo
 abbrev pub left_by : TransactionKind → List Local → Memory → Completion → State → Left
 left_by kind mine found end now = left_or (undoes end kind) mine found end now
 
--- a transaction that lies in another, which runs as outer: what it leaves is seen there
+-- a transaction nested in another, which runs as outer and sees the effects
 abbrev pub leave_inner : Mode → Left → State → Answer Completion
 leave_inner outer left now = Gives left.end (record now { locals = left.locals; context = Inside outer left.memory })
 
@@ -121,14 +120,14 @@ abbrev pub inner : (outer : Mode) (kind : TransactionKind) → Memory → Action
 inner outer kind found run s =
     close_inner outer kind s.locals found (run (record s { context = Inside (mode_of kind) found }))
 
--- an outermost transaction that is left: its tick is due before the memory left is added
+-- an outermost transaction commits or is undone: its tick is due before the post-state is added
 abbrev pub leave : List Memory → List Memory → Left → Action Completion
 leave founds lefts left now =
     go_on (tick (record now { context = Outside founds lefts }))
     (λ u then_. Gives left.end
     (record then_ { locals = left.locals; context = Outside founds (lefts ++ left.memory ∷ []) }))
 
--- a trap leaves the memory that was found, and a run that otherwise stops leaves none
+-- a trap leaves the transaction's pre-state, and any other stop leaves none
 abbrev pub close : TransactionKind → List Memory → List Memory → List Local → Memory → Answer Completion
     → Answer Completion
 close kind founds lefts mine found (Gives end now) = leave founds lefts (left_by kind mine found end now) now
@@ -140,7 +139,7 @@ abbrev pub outermost : TransactionKind → Memory → List Memory → List Memor
 outermost kind found founds lefts run s =
     close kind founds lefts s.locals found (run (record s { context = Inside (mode_of kind) found }))
 
--- a transaction that begins here: outside it takes the next memory, and inside an atomic one no relaxed one begins
+-- a transaction begins: outside it takes the next memory, and inside an atomic one no relaxed one may begin
 abbrev pub enter : Context → TransactionKind → Action Completion → Action Completion
 enter (Outside [] lefts) kind run = stop Wants
 enter (Outside (found ∷ founds) lefts) kind run = outermost kind found founds lefts run
@@ -151,7 +150,7 @@ enter (Inside Atomic found) kind run = inner Atomic kind found run
 abbrev pub transaction : TransactionKind → Action Completion → Action Completion
 transaction kind run s = enter s.context kind run s
 
--- outside transactions a transaction that is an expression takes a tick before its memory is wanted
+-- outside transactions, a transaction expression takes a tick before it needs a memory
 abbrev pub begin_at : Context → Action (Unit {0})
 begin_at (Outside founds lefts) = tick
 begin_at (Inside mode memory) = pure tt
@@ -159,7 +158,7 @@ begin_at (Inside mode memory) = pure tt
 abbrev pub begin_value : Action (Unit {0})
 begin_value s = begin_at s.context s
 
--- what an expression gives that is a transaction (the draft's transaction expressions): its body's end is the value
+-- the value of a transaction expression (the draft's): its body ends with it
 abbrev pub value_at : Completion → Action Value
 value_at (Returns v) = pure v
 value_at end = stop Astray
@@ -184,7 +183,7 @@ abbrev pub Caller : Type 0
 Caller = List ℕ → List Value → Action Value
 
 module _ (p : Program) (call : Caller) where
-  -- where a name's value stands: in the newest local of that name, else in the global
+  -- the lvalue of a name: the newest local of that name, else the global
   abbrev pub lvalue_from : List ℕ → Option (ℕ × Scalar) → Action Lvalue
   lvalue_from x (Some l) = pure (InLocal l.0 l.1)
   lvalue_from x None = do g ← or_astray (global_of p x); pure (InCell g.cell g.global.ty)
@@ -192,7 +191,7 @@ module _ (p : Program) (call : Caller) where
   abbrev pub lvalue_of_name : List ℕ → Action Lvalue
   lvalue_of_name x = do mine ← locals; lvalue_from x (newest mine x)
 
-  -- an index is tested when it is computed
+  -- an index is checked when it is computed
   abbrev pub element : List ℕ → Value → Action Lvalue
   element x k = do
     g ← or_astray (global_of p x)
@@ -210,7 +209,7 @@ module _ (p : Program) (call : Caller) where
     expr (Cast t e at) = do v ← expr e; pure (value_in_type t v)
     expr (Unary op e at) = do v ← expr e; or_trap (unary op v)
     expr (Binary op a b at) = do v ← expr a; w ← expr b; or_trap (binary op v w)
-    -- what is computed only where it is needed (6.5.13 to 6.5.15)
+    -- operands that are evaluated only if needed (6.5.13 to 6.5.15)
     expr (Logical AndThen a b at) =
         do v ← expr a; w ← if is_zero v then pure v else expr b; pure (flag (not (is_zero w)))
     expr (Logical OrElse a b at) =
@@ -221,7 +220,7 @@ module _ (p : Program) (call : Caller) where
       mine ← locals
       t ← or_astray (type_of (running_scope p mine) (Conditional c a b at))
       pure (value_in_type t w)
-    -- a transaction of its own, as one step
+    -- a transaction expression, as one step
     expr (InTransaction mode keyword e at) = value_transaction mode (expr e)
 
     pub exprs : Exprs → Action (List Value)
@@ -234,7 +233,7 @@ module _ (p : Program) (call : Caller) where
   lvalue (Element x i at) = do k ← expr i; element x.text k
   lvalue e = stop Astray
 
-  -- what an operator's assignment writes, the old value read first
+  -- the value that a compound assignment stores; the old value is read first
   abbrev pub assign_by_operator : Lvalue → Action Value → BinaryOp → Action (Unit {0})
   assign_by_operator at by op = do old ← fetch at; v ← by; new ← or_trap (binary op old v); assign at new
 
@@ -316,7 +315,7 @@ module _ (p : Program) (call : Caller) where
     stmts Stmts.[] = pure Next
     stmts (Stmts.◌∷◌ s ss) = stmt s >>= on_next (stmts ss)
 
--- the parameters, with the arguments converted (C11 6.5.2.2); one without a name binds nothing
+-- the parameters, with the arguments converted (C11 6.5.2.2); an unnamed one binds nothing
 abbrev pub parameter_local : Parameter → Value → List Local
 parameter_local q v =
     unwrap_or (option_map (λ x. record { name = x.text; ty = q.ty; word = (value_in_type q.ty v).word } ∷ []) q.name) []
@@ -326,8 +325,7 @@ call_locals [] [] = Some []
 call_locals (q ∷ qs) (v ∷ vs) = option_map (λ ls. parameter_local q v ++ ls) (call_locals qs vs)
 call_locals qs vs = None
 
--- the value of a call, of the function's own type (6.8.6.4): one that runs off its end gives 0, and no other end leaves
--- it
+-- the value of a call, of the function's own type (6.8.6.4): 0 if the body runs off its end; no other end leaves a body
 abbrev pub result_of : Option Scalar → Completion → Action Value
 result_of t Next = pure (value_in_type (unwrap_or t Int) (flag false))
 result_of t (Returns v) = pure (value_in_type (unwrap_or t Int) v)
@@ -344,7 +342,7 @@ invoke p call x vs = do
   put_locals outer
   result_of f.0.result end
 
--- a call where so many further frames may come to live
+-- a call if this many further frames may be live
 abbrev pub calls : Program → ℕ → Caller
 calls p zero x vs = trap Frames
 calls p (suc k) x vs = invoke p (calls p k) x vs

@@ -1,4 +1,4 @@
--- Runs of the source are orders, and orders are runs.
+-- Runs of the source correspond to orders, and orders to runs.
 use Rattle.std.specs.Prelude.{◌≡◌, ℕ, ◌<◌, ◌≤◌, List, ◌++◌, map, length, Some, All}
 use Rattle.std.specs.List.{slice_get}
 use Rattle.syntax.specs.Tree.{Program}
@@ -7,8 +7,8 @@ use Rattle.syntax.specs.Behaviours.{Memory, Step, founds_of, lefts_of, last_memo
 use Rattle.syntax.specs.Orders.{in_order}
 use Rattle.syntax.specs.Threads.{thread, IsSourceRun}
 
--- A run whose threads make their steps within so many ticks is an order, that of its steps: so the threads leave the
--- run's last memory, and each does what it does on the memories that it finds in the run.
+-- A run whose threads make their steps within this many ticks is an order, that of its steps: the threads leave the
+-- run's last memory, and each does what it does with its pre-states in the run.
 pub record IsItsOrder (p : Program) (threads ticks : ℕ) (run : List Step) : Type 0 where
   pub memory : (in_order (thread p) (initial_memory p) threads ticks (map (λ (s : Step). s.thread) run)).memory
       ≡ last_memory (initial_memory p) run
@@ -24,8 +24,8 @@ RunsAreOrders =
     ((t : ℕ) → t < threads → (thread p t (founds_of t run) ticks).lefts ≡ lefts_of t run) →
     IsItsOrder p threads ticks run
 
--- An order shows a run of the source: its memory is the run's last one, and each thread does what it does on the
--- memories that it finds in the run, and on one more where it has begun a transaction and left nothing.
+-- An order is a run of the source: its memory is the run's last one, and each thread does what it does with its
+-- pre-states in the run, and with one more if it has begun a transaction without a post-state.
 pub record ShowsRun (p : Program) (threads ticks : ℕ) (order : List ℕ) : Type 0 where
   pub run : List Step
   pub is_run : IsSourceRun p threads run

@@ -1,4 +1,4 @@
--- Phrases: lists of tokens that stand for something, and how a grammar is put together of them.
+-- Phrases: lists of tokens with a meaning, and the combinators that a grammar consists of.
 use Rattle.std.specs.Prelude.{◌≡◌, ◌⊎◌, ℕ, ◌<◌, List, [], ◌∷◌, ◌++◌, Option, Some, None, Bool, false, if◌then◌else◌}
 use denote.Enum.Bare.{sameb}
 use Rattle.lex.specs.{declared.token.Fixed.Fixed, declared.token.Span.Span, Tokens.Terminal, Tokens.Tok}
@@ -12,7 +12,7 @@ use Rattle.lex.specs.declared.token.Punctuator.TheVariants as punct
 abbrev pub Phrase : Type 1
 Phrase = List Tok → Type 0
 
--- a phrase of the first kind, and then one of the second
+-- a phrase of the first kind, followed by one of the second
 pub record Seq (L M : Phrase) (ts : List Tok) : Type 0 where
   pub front : List Tok
   pub back : List Tok
@@ -20,7 +20,7 @@ pub record Seq (L M : Phrase) (ts : List Tok) : Type 0 where
   pub second : M back
   pub whole : ts ≡ front ++ back
 
--- one token, which says x
+-- one token, with the value x
 pub record One {A : Type 0} (f : Tok → Option A) (x : A) (ts : List Tok) : Type 0 where
   pub token : Tok
   pub has : f token ≡ Some x
@@ -35,7 +35,7 @@ never ts = ⊥
 
 infixr 40 ◌⨾◌
 infixr 30 ◌∣◌
--- one phrase and then the other
+-- one phrase followed by the other
 abbrev pub ◌⨾◌ : Phrase → Phrase → Phrase
 ◌⨾◌ L M = Seq L M
 
@@ -94,7 +94,7 @@ abbrev pub end_from : ℕ → List Tok → ℕ
 end_from e [] = e
 end_from e (t ∷ ts) = end_from t.span.end ts
 
--- where the last token ends, or 0 where there is none
+-- where the last token ends, or 0 if there is none
 abbrev pub end_of : List Tok → ℕ
 end_of ts = end_from 0 ts
 
@@ -103,7 +103,7 @@ abbrev pub Covers : Span → Phrase
 Covers at [] = ⊥
 Covers at (t ∷ ts) = at ≡ record { start = t.span.start; end = end_from t.span.end ts }
 
--- a phrase whose tokens cover this span
+-- a phrase with the span of its tokens
 abbrev pub spanning : Span → Phrase → Phrase
 spanning at L ts = Covers at ts × L ts
 
@@ -118,25 +118,25 @@ pub record At (ts : List Tok) (at : Span) : Type 0 where
   pub there : token.span ≡ at
 
 module _ {A : Type 0} (L : A → Phrase) where
-  -- something that is spelled begins with these tokens
+  -- some phrase begins with these tokens
   pub record Begins (front : List Tok) : Type 0 where
     pub value : A
     pub more : List Tok
     pub spelled : L value (front ++ more)
 
-  -- the first token with which nothing begins any more
+  -- the first token at which no phrase can continue
   pub record IsUnexpected (ts : List Tok) (at : Span) : Type 0 where
     pub here : At ts at
     pub begins : Begins here.before
     pub not : Begins (here.before ++ here.token ∷ []) → ⊥
 
-  -- the tokens begin something and are nothing; the span is empty, where the last one ends
+  -- the tokens begin a phrase and are none; the span is empty, at the end of the last one
   pub record IsUnfinished (ts : List Tok) (at : Span) : Type 0 where
     pub begins : Begins ts
     pub not : (x : A) → L x ts → ⊥
     pub empty : at ≡ record { start = end_of ts; end = end_of ts }
 
-  -- something begins with the tokens up to this one, and all that does is deeper than the limit
+  -- some phrase begins with the tokens up to this one, and each that does is deeper than the limit
   pub record IsTooDeep (depth : A → ℕ) (limit : ℕ) (ts : List Tok) (at : Span) : Type 0 where
     pub here : At ts at
     pub begins : Begins (here.before ++ here.token ∷ [])

@@ -14,7 +14,7 @@ use Rattle.syntax.specs.Laws.{WhereGiven, shape}
 abbrev pub AreAllMet : List Demand → Type 0
 AreAllMet ds = All (λ d. IsTrue d.met) ds
 
--- a function that is known to give and take these types has a definition, with these types
+-- a known function has a definition, with these types
 abbrev pub CalledAreDefined : Type 0
 CalledAreDefined =
     (p : Program) → IsTypedProgram p → (x : List ℕ) (result : Option Scalar) (takes : List Scalar) →
@@ -29,13 +29,13 @@ IsSubscope known other = (x : List ℕ) → IsTrue (not (is_unknown (known x))) 
 abbrev pub body_scope : List Item → Function → Scope
 body_scope earlier f = with_parameters f.parameters (file_scope (earlier ++ Defines f ∷ []))
 
--- a definition among the items of a program, with its body typed where it stands
+-- a definition among the items of a program, with its body typed in its own scope
 pub record StandsTyped (p : Program) (d : Function × Stmts) : Type 0 where
   pub earlier : List Item
   pub later : List Item
   pub stands : p ≡ (earlier ++ Defines d.0 ∷ []) ++ later
   pub body : AreAllMet (AreTypedStmts d.0.result d.1 (body_scope earlier d.0) (parameter_names d.0.parameters) false)
-  -- with the arguments as its locals, what is known as it runs agrees with what is known of its body
+  -- with the arguments as its locals, the environment as it runs agrees with that of its body
   pub fits : (vs : List Value) (ls : List Local) → call_locals d.0.parameters vs ≡ Some ls →
       IsSubscope (body_scope earlier d.0) (running_scope p ls)
 
@@ -44,13 +44,13 @@ BodiesAreTyped =
     (p : Program) → IsTypedProgram p → (x : List ℕ) (d : Function × Stmts) → definition_of p x ≡ Some d →
     StandsTyped p d
 
--- a typed expression has the same type where what is known agrees, and it has one if it is not void
+-- a typed expression has the same type if the environments agree, and it has one if it is not void
 abbrev pub TypesAgree : Type 0
 TypesAgree =
     (known other : Scope) → IsSubscope known other → (e : Expr) → AreAllMet (IsTyped known e) →
     (type_of other e ≡ type_of known e) × (IsTrue (not (is_void known e)) → IsTrue (is_some (type_of known e)))
 
--- where what is known as a program runs agrees with what is known of a statement, it does so after the statement
+-- if the environment as a program runs agrees with that of a statement, it does so after the statement
 abbrev pub ScopeFits : Type 0
 ScopeFits =
     (p : Program) (frames : ℕ) (st : Stmt) (s : State) (known : Scope) → IsSubscope known (running_scope p s.locals) →
@@ -68,7 +68,7 @@ LocalsExact =
     (p : Program) (frames : ℕ) (st : Stmt) (s : State) →
     WhereGiven (stmt p (calls p frames) st s) (λ end now. map shape now.locals ≡ map shape s.locals ++ declared_by st)
 
--- an end that leaves no loop
+-- an end that exits no loop
 abbrev pub IsNoJump : Completion → Type 0
 IsNoJump Breaks = ⊥
 IsNoJump Continues = ⊥

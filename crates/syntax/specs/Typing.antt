@@ -1,7 +1,7 @@
 -- Which programs are typed, demand by demand.
 --
--- Each rule is a demand: a fault number, a span, and whether it is met. They stand in one list, in the order in which
--- they are looked at: a program is typed where every demand is met, and its fault is the first that is not.
+-- Each rule is a demand: a fault number, a span, and whether it is met. They are in one list, in the order in which
+-- they are checked: a program is typed if every demand is met, and its fault is the first that is not.
 use Rattle.std.specs.Prelude.{ℕ, ◌+◌, List, [], ◌∷◌, ◌++◌, length, map, drop, sum_by, Option, Some, None, Bool, true}
 use Rattle.std.specs.Prelude.{false, not, ◌&&◌, ◌||◌, IsTrue, is_some, is_none, if◌then◌else◌, codes, option_map}
 use Rattle.std.specs.Prelude.{unwrap_or, ◌==◌, nat_le, bytes_eq, All}
@@ -17,7 +17,7 @@ use Rattle.syntax.specs.Types.{Known, Unknown, Callable, Scope, file_scope, with
 use Rattle.syntax.specs.Types.{type_of}
 use Rattle.syntax.specs.Formats.{pieces, is_format, specifiers}
 
--- a list of names has a name
+-- a list of names contains a name
 abbrev pub has_name : List (List ℕ) → List ℕ → Bool
 has_name xs x = list_any (λ y. bytes_eq y x) xs
 
@@ -25,7 +25,7 @@ abbrev pub is_unknown : Known → Bool
 is_unknown Unknown = true
 is_unknown other = false
 
--- a name may stand for a variable, an array or a function; one that is not known breaks another rule
+-- a name may denote a variable, an array or a function; an unknown one breaks another rule
 abbrev pub may_be_number : Known → Bool
 may_be_number k = is_unknown k || is_some (number_type k)
 
@@ -37,7 +37,7 @@ may_be_function Unknown = true
 may_be_function (Callable result takes) = true
 may_be_function other = false
 
--- a call with so many arguments
+-- a call with this many arguments
 abbrev pub takes_so_many : Known → ℕ → Bool
 takes_so_many (Callable result takes) n = n == length takes
 takes_so_many other n = true
@@ -71,11 +71,11 @@ abbrev pub agrees : Function → Known → Bool
 agrees f (Callable result takes) = same_result result f.result && same_types takes (map (λ q. q.ty) f.parameters)
 agrees f other = true
 
--- a value is returned exactly where the function gives one (6.8.6.4)
+-- a value is returned exactly if the function gives one (6.8.6.4)
 abbrev pub returns_right : Option Scalar → Option Expr → Bool
 returns_right gives e = if is_some gives then is_some e else is_none e
 
--- where an expression stands
+-- the span of an expression
 abbrev pub span_of : Expr → Span
 span_of (Variable x) = x.span
 span_of (Constant n t at) = at
@@ -89,7 +89,7 @@ span_of (Logical op a b at) = at
 span_of (Conditional c a b at) = at
 span_of (InTransaction mode keyword e at) = at
 
--- no value: a call of a function that gives none (6.3.2.2)
+-- no value: a call of a function that returns none (6.3.2.2)
 abbrev pub gives_nothing : Known → Bool
 gives_nothing (Callable result takes) = is_none result
 gives_nothing other = false
@@ -115,7 +115,7 @@ abbrev pub scope_of_start : Start → Scope → Scope
 scope_of_start (Declares d) known = knows d.ty d.declarators known
 scope_of_start start known = known
 
--- the parameters' names, and what is known with them
+-- the parameters' names, and the scope with them
 abbrev pub parameter_names : List Parameter → List (List ℕ)
 parameter_names [] = []
 parameter_names (q ∷ qs) = unwrap_or (option_map (λ x. x.text ∷ parameter_names qs) q.name) (parameter_names qs)
@@ -137,12 +137,12 @@ all_cells [] = 0
 all_cells (Defines f ∷ items) = all_cells items
 all_cells (Shares gs ∷ items) = sum_by cells gs + all_cells items
 
--- a function that gives nothing and takes one int
+-- a function that returns nothing and takes one int
 abbrev pub is_worker : Known → Bool
 is_worker (Callable result takes) = is_none result && same_types takes (Int ∷ [])
 is_worker other = false
 
--- what a program has to meet, by the constraints of C11 6.5 to 6.9: a fault's number, its span, and whether it is met
+-- the demands on a program, by the constraints of C11 6.5 to 6.9: a fault's number, its span, and whether it is met
 pub record Demand : Type 0 where
   pub number : ℕ
   pub span : Span
@@ -219,7 +219,7 @@ module _ (known : Scope) where
       let printed = specifiers (pieces format) in
       AreNumbers es ++ demand 27 at (is_format format && (length printed == count es)) ++ HaveTypes printed es
 
--- each new name is new in its scope, and known from its own first value on (6.2.1, 6.7)
+-- each new name is new in its scope, and known from its own initialiser on (6.2.1, 6.7)
 abbrev pub AreTypedDeclarators : Scope → List (List ℕ) → Scalar → List Declarator → List Demand
 AreTypedDeclarators known declared t [] = []
 AreTypedDeclarators known declared t (d ∷ ds) =
@@ -233,7 +233,7 @@ IsTypedStart known Nothing = []
 IsTypedStart known (Declares d) = AreTypedDeclarators known [] d.ty d.declarators
 IsTypedStart known (Does s) = IsTypedSimple known s
 
--- statements of a function that gives this, in a loop or not; declared are the names of the scope that they stand in
+-- statements of a function that returns this, in a loop or not; declared are the names of the enclosing scope
 -- (6.8.4.1, 6.8.5, 6.8.6.2 to 6.8.6.4)
 module _ (gives : Option Scalar) where
   abbrev mutual
@@ -275,7 +275,7 @@ IsTypedBody earlier f (Some ss) =
     AreTypedStmts f.result ss (with_parameters f.parameters (file_scope (earlier ++ Defines f ∷ [])))
     (parameter_names f.parameters) false
 
--- a function after these items: no global has its name, no second body stands, and earlier types are the same (6.7,
+-- a function after these items: no global has its name, it has no second body, and earlier types are the same (6.7,
 -- 6.9.1)
 abbrev pub IsTypedFunction : List Item → Function → List Demand
 IsTypedFunction earlier f =
@@ -291,12 +291,12 @@ abbrev pub IsLength : Option (ℕ × Span) → List Demand
 IsLength None = []
 IsLength (Some n) = demand 25 n.1 (nat_le 1 n.0 && nat_le n.0 MOST_CELLS)
 
--- no initialiser stands where no cell is left for it
+-- no initialiser is in excess of the cells
 abbrev pub HaveCells : List Initialiser → List Demand
 HaveCells [] = []
 HaveCells (i ∷ is) = demand 25 i.span false
 
--- globals after these items and globals, which take up so many cells
+-- globals after these items and globals, which occupy this many cells
 abbrev pub AreTypedGlobals : List Item → List Global → ℕ → List Global → List Demand
 AreTypedGlobals earlier before taken [] = []
 AreTypedGlobals earlier before taken (g ∷ gs) =

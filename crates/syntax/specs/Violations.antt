@@ -1,4 +1,4 @@
--- What is told of a program that breaks a rule.
+-- The report of a program that breaks a rule.
 use Rattle.std.specs.Prelude.{◌≡◌, ℕ, Option, Some, None}
 use Rattle.syntax.specs.Tree.{Span}
 use Rattle.syntax.specs.declared.violation.Rule.{Rule}
@@ -11,7 +11,7 @@ use Rattle.syntax.specs.declared.violation.Violation.{Violation}
 use Rattle.syntax.specs.declared.violation.Refused.{Refused}
 use Rattle.syntax.specs.declared.violation.Refused.TheVariants.{OutOfMemory, Broken}
 
--- the number of the fault that breaks a rule
+-- the number of the fault that violates a rule
 abbrev pub number_of : Rule → ℕ
 number_of UnknownName = 20
 number_of DeclaredTwice = 21
@@ -32,11 +32,11 @@ number_of CancelOutsideOuter = 45
 number_of BareAccess = 50
 number_of BareCall = 51
 
--- the number and the place of what is broken, as demands have them
+-- the number and the span of a violation, as in demands
 abbrev pub told_of : Violation → ℕ × Span
 told_of v = (number_of v.rule, v.at)
 
--- the number and the place of the demand that is not met, as a check says
+-- the number and the span of the demand that is not met, as a check reports it
 abbrev pub unmet_in : Option Violation → Option (ℕ × Span)
 unmet_in None = None
 unmet_in (Some v) = Some (told_of v)
@@ -50,13 +50,12 @@ module _ {T : Type 0} where
   place_in (OutOfMemory x) = None
   place_in (Broken x v) = Some v.at
 
-  -- what a check hands back
+  -- the error of a check, with the program returned
   abbrev pub returned_in : Refused T → T
   returned_in (OutOfMemory x) = x
   returned_in (Broken x v) = x
 
-  -- this was given and comes back, and of a rule that is broken the number and the place are so; want of memory says
-  -- nothing
+  -- the program is returned, and a violated rule has this number and span; nothing is claimed on allocation failure
   abbrev pub HandsBack : T → (ℕ → Span → Type 0) → Refused T → Type 0
   HandsBack given Tells (OutOfMemory x) = x ≡ given
   HandsBack given Tells (Broken x v) = (x ≡ given) × Tells (number_of v.rule) v.at

@@ -60,7 +60,7 @@ impl<A: Allocator + Copy> Copied<A> for ForHead<A> {
 }
 
 impl<A: Allocator + Copy> Stmt<A> {
-    /// A copy of the statement with all its spans, in memory of its own; an `Err` only where `alloc` refuses it.
+    /// A copy of the statement with all its spans, in memory of its own; an `Err` only if `alloc` fails.
     #[cycle(copy_stmt)]
     pub fn copy(&self, alloc: A) -> Result<Stmt<A>, AllocError>
         ensures { IfOk result (λ s. s ≡ self.now) }
@@ -114,7 +114,7 @@ fn copy_boxed<A: Allocator + Copy>(
     Boxed::new(alloc, s.get().copy(alloc)?)
 }
 
-/// Copies the branch behind an `else`, where there is one.
+/// Copies the `else` branch, if there is one.
 #[cycle(copy_stmt)]
 fn copy_else<A: Allocator + Copy>(
     alloc: A,

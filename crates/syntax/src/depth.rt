@@ -8,9 +8,9 @@ use crate::tree::Expr;
 use std::alloc::Allocator;
 
 impl<A: Allocator> Expr<A> {
-    /// The number of nodes on the longest way from the expression down to a name or a constant: a name and a constant
-    /// have depth 1, any other expression, also one in parentheses, has one more than its deepest part. An expression
-    /// deeper than a `usize` can say has depth `usize::MAX`.
+    /// The number of nodes on the longest path from the expression down to a name or a constant: a name and a constant
+    /// have depth 1, any other expression, also one in parentheses, has one more than its deepest part. A depth that
+    /// exceeds `usize::MAX` is `usize::MAX`.
     #[cycle(depth)]
     pub fn depth(&self) -> usize
         ensures { result ≡ min (expr_depth (expr_of self.now)) usize.MAX }
@@ -34,7 +34,7 @@ impl<A: Allocator> Expr<A> {
     }
 }
 
-/// The greatest of the depths, or 0 where there is none.
+/// The greatest of the depths, or 0 if there is none.
 #[cycle(depth)]
 pub(crate) fn deepest_of<A: Allocator>(args: &[Expr<A>]) -> usize
     ensures { result ≡ min (deepest (exprs_of args.now)) usize.MAX }

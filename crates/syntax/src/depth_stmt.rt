@@ -19,8 +19,8 @@ fn option_depth<A: Allocator>(e: &Option<Expr<A>>) -> usize
 }
 
 impl<A: Allocator> Simple<A> {
-    /// How deep this is as a statement, with the semicolon behind it: one more than its deepest part, or `usize::MAX`
-    /// where that is greater.
+    /// The depth of this as a statement, with its semicolon: one more than its deepest part, or `usize::MAX`
+    /// if that is greater.
     pub fn depth(&self) -> usize
         ensures { result ≡ min (simple_depth (simple_of self.now)) usize.MAX }
     {
@@ -43,8 +43,8 @@ fn deepest_first<A: Allocator>(all: &[Declarator<A>]) -> usize
 }
 
 impl<A: Allocator> Declaration<A> {
-    /// One more than the depth of the declaration's deepest first value, so 1 where no name has one; or `usize::MAX`
-    /// where that is greater.
+    /// One more than the depth of the declaration's deepest initialiser, so 1 if no name has one; or `usize::MAX`
+    /// if that is greater.
     pub fn depth(&self) -> usize
         ensures { result ≡ min (declaration_depth (declaration_of self.now)) usize.MAX }
     {
@@ -53,8 +53,8 @@ impl<A: Allocator> Declaration<A> {
 }
 
 impl<A: Allocator> Start<A> {
-    /// The depth of the declaration or the statement that a `for` begins with, 0 where it begins with nothing; or
-    /// `usize::MAX` where that is greater.
+    /// The depth of the declaration or the statement that a `for` begins with, 0 if there is none; or
+    /// `usize::MAX` if that is greater.
     pub fn depth(&self) -> usize
         ensures { result ≡ min (start_depth (start_of self.now)) usize.MAX }
     {
@@ -76,10 +76,9 @@ fn step_depth<A: Allocator>(s: &Option<Simple<A>>) -> usize
 }
 
 impl<A: Allocator> Stmt<A> {
-    /// The number of nodes on the longest way down from the statement: `;`, `break`, `continue`, `cancel` and a
+    /// The number of nodes on the longest path down from the statement: `;`, `break`, `continue`, `cancel` and a
     /// `return` without a value have depth 1, any other statement, a block or a declaration has one more than its
-    /// deepest part. The block of a transaction is a part of it. A statement deeper than a `usize` can say has depth
-    /// `usize::MAX`.
+    /// deepest part. The block of a transaction is a part of it. A depth that exceeds `usize::MAX` is `usize::MAX`.
     #[cycle(depth_stmt)]
     pub fn depth(&self) -> usize
         ensures { result ≡ min (stmt_depth (stmt_of self.now)) usize.MAX }
@@ -112,7 +111,7 @@ impl<A: Allocator> Stmt<A> {
     }
 }
 
-/// The depth of a block: one more than its deepest statement, and 1 where it is empty.
+/// The depth of a block: one more than its deepest statement, and 1 if it is empty.
 #[cycle(depth_stmt)]
 pub(crate) fn block_depth_of<A: Allocator>(all: &[Stmt<A>]) -> usize
     ensures { result ≡ min (block_depth (stmts_of all.now)) usize.MAX }

@@ -9,7 +9,7 @@ use crate::tree::{Function, Item, Unit};
 use std::alloc::Allocator;
 
 impl<A: Allocator> Function<A> {
-    /// The depth of the block, 0 where a prototype has none; or `usize::MAX` where that is greater.
+    /// The depth of the block, 0 if a prototype has none; or `usize::MAX` if that is greater.
     pub fn depth(&self) -> usize
         ensures { result ≡ min (body_depth (option_map stmts_of self.now.body)) usize.MAX }
     {
@@ -21,7 +21,7 @@ impl<A: Allocator> Function<A> {
 }
 
 impl<A: Allocator> Item<A> {
-    /// The depth of a function's block, 0 for a prototype and for global variables; or `usize::MAX` where that is
+    /// The depth of a function's block, 0 for a prototype and for global variables; or `usize::MAX` if that is
     /// greater.
     pub fn depth(&self) -> usize
         ensures { result ≡ min (item_depth (item_of self.now)) usize.MAX }
@@ -44,7 +44,7 @@ fn deepest_item<A: Allocator>(all: &[Item<A>]) -> usize
 }
 
 impl<A: Allocator> Unit<A> {
-    /// The greatest depth of a function's block, 0 where there is none; or `usize::MAX` where that is greater.
+    /// The greatest depth of a function's block, 0 if there is none; or `usize::MAX` if that is greater.
     pub fn depth(&self) -> usize
         ensures { result ≡ min (program_depth (program_of self.now)) usize.MAX }
     {

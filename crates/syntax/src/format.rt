@@ -1,4 +1,4 @@
-//! What stands at an index of a format.
+//! The directive at an index of a format.
 
 ghost use Rattle.std.specs.Prelude.{◌≡◌, ◌<◌, ◌≤◌, ◌+◌, length, drop, IfSome};
 ghost use Rattle.syntax.specs.Formats.{specifier_at};
@@ -6,13 +6,13 @@ ghost use Rattle.syntax.specs.FormatDirectives.{IsDirectiveAt};
 
 use lex::token::Scalar;
 
-/// A byte of literal text or a number, and the index behind what says it.
+/// A byte of literal text or a number, and the index after its directive.
 pub enum FormatDirective {
     Byte(u8, usize),
     Specifier(Scalar, usize),
 }
 
-/// The number that stands at an index behind a percent sign: its type, and how many bytes say it (C11 7.21.6.1).
+/// The number specifier at an index after a percent sign: its type, and its length in bytes (C11 7.21.6.1).
 fn specifier_at(format: &[u8], i: usize) -> Option<(Scalar, usize)>
     requires { i < length format.now }
     ensures is { result ≡ specifier_at (drop i format.now) }
@@ -27,7 +27,7 @@ fn specifier_at(format: &[u8], i: usize) -> Option<(Scalar, usize)>
     }
 }
 
-/// What stands at an index of a format.
+/// The directive at an index of a format.
 pub fn directive_at(format: &[u8], i: usize) -> FormatDirective
     requires { i < length format.now }
     ensures { IsDirectiveAt result format.now i }

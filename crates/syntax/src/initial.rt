@@ -1,4 +1,4 @@
-//! What the cells of a global begin with.
+//! The initial words of a global's cells.
 
 ghost use Rattle.std.specs.Prelude.{◌≡◌, ◌++◌, map, replicate, OnOk};
 ghost use Rattle.syntax.specs.Names.{cells, first_value, first_word, first_words};
@@ -40,7 +40,7 @@ impl<A: Allocator> Global<A> {
     }
 }
 
-/// Adds the words that are given for cells of this type.
+/// Adds the words of the initialisers for cells of this type.
 fn push_firsts<A: Allocator>(
     words: &mut Vec<u64, A>,
     ty: Scalar,
@@ -54,7 +54,7 @@ fn push_firsts<A: Allocator>(
     Ok(())
 }
 
-/// Adds cells that hold 0.
+/// Adds cells that contain 0.
 fn push_zeros<A: Allocator>(words: &mut Vec<u64, A>, count: usize) -> Result<(), AllocError>
     ensures { OnOk result (words.new.items ≡ words.old.items ++ replicate count 0) }
 {
@@ -64,7 +64,7 @@ fn push_zeros<A: Allocator>(words: &mut Vec<u64, A>, count: usize) -> Result<(),
     Ok(())
 }
 
-/// Adds the words of a global, one for each cell: those that are given, and else 0.
+/// Adds the words of a global, one for each cell: those of the initialisers, and else 0.
 pub fn push_global<A: Allocator, B: Allocator>(
     words: &mut Vec<u64, B>,
     global: &Global<A>,

@@ -1,4 +1,4 @@
 //! Limits of programs.
 
-/// The most cells of all globals.
+/// The maximum number of cells of all globals.
 pub const MOST_CELLS: usize = 4_096;

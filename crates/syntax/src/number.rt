@@ -1,11 +1,11 @@
-//! Words, and the numbers that they stand for.
+//! Words, and the numbers that they denote.
 
 ghost use Rattle.std.specs.Prelude.{◌≡◌, ◌≤ℤ◌, ◌<ℤ◌, ◌-ℤ◌, pos};
 ghost use Rattle.syntax.specs.Numbers.{limit, modulus, number as number_in, word_of};
 
 use lex::token::Scalar;
 
-/// The number that a word stands for.
+/// The number that a word denotes.
 #[inline(always)]
 pub fn number(ty: Scalar, word: u64) -> i64
     ensures value { result ≡ number_in ty word }

@@ -1,4 +1,4 @@
-//! Whether trees are the same, with all their spans.
+//! Equality of trees, with all their spans.
 
 use crate::tree::{
     Attribute, Declaration, Declarator, Expr, ForHead, Function, Global, Initialiser, Item, Name,

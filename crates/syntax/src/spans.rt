@@ -1,4 +1,4 @@
-//! Where parts of a tree stand in the source.
+//! The spans of parts of a tree.
 
 ghost use Rattle.std.specs.Prelude.{◌≡◌};
 ghost use Rattle.syntax.specs.Typing.{span_of};
@@ -8,7 +8,7 @@ use crate::tree::{Declaration, Expr, ForHead, Simple, Stmt};
 use lex::token::Span;
 use std::alloc::Allocator;
 
-/// Where an expression stands.
+/// The span of an expression.
 pub fn span_of<A: Allocator>(e: &Expr<A>) -> Span
     ensures { result ≡ span_of (expr_of e.now) }
 {
@@ -27,7 +27,7 @@ pub fn span_of<A: Allocator>(e: &Expr<A>) -> Span
     }
 }
 
-/// Where an assignment or an expression stands; of `x++` the `x`.
+/// The span of an assignment or an expression; for `x++`, that of `x`.
 pub fn span_of_simple<A: Allocator>(s: &Simple<A>) -> Span {
     match s {
         Simple::Evaluate(e) | Simple::Adjust(e, _) => span_of(e),
@@ -38,7 +38,7 @@ pub fn span_of_simple<A: Allocator>(s: &Simple<A>) -> Span {
     }
 }
 
-/// Where the first name of a declaration stands.
+/// The span of the first name of a declaration.
 fn span_of_declaration<A: Allocator>(d: &Declaration<A>) -> Option<Span> {
     match d.declarators.as_slice().first() {
         Some(first) => Some(first.name.span),
@@ -46,7 +46,7 @@ fn span_of_declaration<A: Allocator>(d: &Declaration<A>) -> Option<Span> {
     }
 }
 
-/// Where the condition of a `for` stands, or else its step.
+/// The span of the condition of a `for`, or else of its step.
 pub fn span_of_head<A: Allocator>(head: &ForHead<A>) -> Option<Span> {
     match &head.condition {
         Some(c) => Some(span_of(c)),
@@ -57,8 +57,8 @@ pub fn span_of_head<A: Allocator>(head: &ForHead<A>) -> Option<Span> {
     }
 }
 
-/// Where what a statement is known by stands: its keyword, or where the tree does not keep that its condition or what
-/// it does. A block and an empty statement have nothing of their own.
+/// The span that identifies a statement: its keyword, or if the tree does not keep that, its condition or its action.
+/// A block and an empty statement have none of their own.
 pub fn span_of_stmt<A: Allocator>(s: &Stmt<A>) -> Option<Span> {
     match s {
         Stmt::Empty | Stmt::Block(_) => None,

@@ -1,4 +1,4 @@
-//! Why threads trap, how a thread of the machine is, and why one of the source goes no further.
+//! Why threads trap, the status of a thread of the machine, and why a thread of the source halts.
 
 ghost use Rattle.std.specs.Prelude.{◌≡◌};
 ghost use Rattle.syntax.specs.Numbers.{trap_number};
@@ -6,7 +6,7 @@ ghost use Rattle.syntax.specs.Numbers.{trap_number};
 /// Why a thread traps.
 #[derive(Clone, Copy, PartialEq, Eq)]
 pub enum Trap {
-    /// A signed result that its type does not hold.
+    /// A signed result that is out of its type's range.
     OutOfRange,
     /// A division by 0.
     ZeroDivisor,
@@ -14,7 +14,7 @@ pub enum Trap {
     Index,
     /// A call while 64 frames are live.
     Frames,
-    /// A shift count outside 0 to 31, or outside 0 to 63 where a `long long` is shifted.
+    /// A shift count outside 0 to 31, or outside 0 to 63 if a `long long` is shifted.
     ShiftCount,
 }
 
@@ -33,26 +33,26 @@ impl Trap {
     }
 }
 
-/// How a thread of the machine is.
+/// The status of a thread of the machine.
 #[derive(Clone, Copy, PartialEq, Eq)]
 pub enum Status {
-    /// The thread goes on.
+    /// The thread is running.
     Running,
-    /// The thread has ended.
+    /// The thread has terminated.
     Ended,
     /// The thread has trapped.
     Trapped(Trap),
 }
 
-/// Why a thread goes no further.
+/// Why a thread halts.
 #[derive(Clone, Copy, PartialEq, Eq)]
 pub enum Halt {
     /// The thread has trapped.
     Trapped(Trap),
-    /// The thread is at an outermost transaction, and no memory is left for it to find.
+    /// The thread is at an outermost transaction, and there is no further memory for it.
     Wants,
-    /// The thread has no tick left for what it is to do next.
+    /// The thread is out of fuel: it has no tick left for its next step.
     Spent,
-    /// The thread is where no accepted program comes: something that it needs is missing.
+    /// The thread has gone wrong: something that it needs is missing. This never happens in an accepted program.
     Astray,
 }

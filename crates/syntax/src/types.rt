@@ -35,7 +35,7 @@ pub fn common_type(s: Scalar, t: Scalar) -> Scalar
     }
 }
 
-/// The common type of two operands, where both have a type.
+/// The common type of two operands, if both have a type.
 pub fn common_of(s: Option<Scalar>, t: Option<Scalar>) -> Option<Scalar>
     ensures { result ≡ common_of s t }
 {
@@ -45,7 +45,7 @@ pub fn common_of(s: Option<Scalar>, t: Option<Scalar>) -> Option<Scalar>
     }
 }
 
-/// The type to which an operand is converted, where the other one is of this type.
+/// The type to which an operand is converted, if the other one is of this type.
 pub fn operand_type(op: BinaryOp, own: Scalar, other: Scalar) -> Scalar
     ensures { result ≡ operand_type op own other }
 {
@@ -55,7 +55,7 @@ pub fn operand_type(op: BinaryOp, own: Scalar, other: Scalar) -> Scalar
     }
 }
 
-/// The type of what an operator gives whose operands are of this type.
+/// The type of an operator's result, for operands of this type.
 pub fn result_type(op: BinaryOp, ty: Scalar) -> Scalar
     ensures { result ≡ result_type op ty }
 {
@@ -70,7 +70,7 @@ pub fn result_type(op: BinaryOp, ty: Scalar) -> Scalar
     }
 }
 
-/// The type of an operator's result, where its operands have a type.
+/// The type of an operator's result, if its operands have a type.
 fn joined_type(op: BinaryOp, both: Option<Scalar>) -> Option<Scalar>
     ensures { result ≡ option_map (result_type op) both }
 {
@@ -80,7 +80,7 @@ fn joined_type(op: BinaryOp, both: Option<Scalar>) -> Option<Scalar>
     }
 }
 
-/// The type of what an operator before its operand gives (C11 6.5.3.3).
+/// The type of a unary operator's result (C11 6.5.3.3).
 pub fn unary_type(op: UnaryOp, ty: Option<Scalar>) -> Option<Scalar>
     ensures { result ≡ unary_type op ty }
 {
@@ -90,7 +90,7 @@ pub fn unary_type(op: UnaryOp, ty: Option<Scalar>) -> Option<Scalar>
     }
 }
 
-/// The type of what an operator between two operands gives (C11 6.5.5 to 6.5.12).
+/// The type of a binary operator's result (C11 6.5.5 to 6.5.12).
 pub fn binary_type(op: BinaryOp, s: Option<Scalar>, t: Option<Scalar>) -> Option<Scalar>
     ensures { result ≡ binary_type op s t }
 {

@@ -2,7 +2,7 @@
 
 use lex::token::Scalar;
 
-/// A number: its type, and the word that stands for it, below 2^32 where the type is no `long long`.
+/// A number: its type, and the word that denotes it, below 2^32 if the type is not `long long`.
 #[derive(Clone, Copy, PartialEq, Eq)]
 pub struct Value {
     pub ty: Scalar,

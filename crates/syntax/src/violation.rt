@@ -1,4 +1,4 @@
-//! The rules of names and types, of safety and of separation, and what is told of a program that breaks one.
+//! The rules of names and types, of safety and of separation, and the report of a violation.
 
 ghost use Rattle.std.specs.Prelude.{◌≡◌};
 ghost use Rattle.syntax.specs.Typing.{demand, first_unmet};
@@ -10,16 +10,16 @@ use thiserror::Error;
 /// A rule that a program has to keep.
 #[derive(Clone, Copy, PartialEq, Eq, Debug, Error)]
 pub enum Rule {
-    /// A name is known where it stands.
+    /// A name is known at its use.
     #[error("unknown name")]
     UnknownName,
     /// A name is declared once in a scope, and a function is defined once.
     #[error("declared twice")]
     DeclaredTwice,
-    /// What stands somewhere is of a type that may stand there, and of the one that was declared before.
+    /// A construct has a type that is allowed in its place, and the same type as in earlier declarations.
     #[error("wrong type")]
     WrongType,
-    /// A call has as many arguments as its function has parameters; told at the called name.
+    /// A call has as many arguments as its function has parameters; reported at the called name.
     #[error("wrong number of arguments")]
     WrongCount,
     /// The left side of an assignment is a variable or an element.
@@ -28,46 +28,46 @@ pub enum Rule {
     /// An array has a length, no more initialisers than cells, and the globals together few cells.
     #[error("bad array length")]
     BadLength,
-    /// A `break` or a `continue` stands in a loop.
+    /// A `break` or a `continue` is in a loop.
     #[error("break or continue outside a loop")]
     OutsideLoop,
-    /// A format is one, with as many specifiers as arguments, each of its argument's type.
+    /// A format is valid, with as many specifiers as arguments, each of its argument's type.
     #[error("bad format")]
     BadFormat,
-    /// A function takes one `int` and gives nothing under the name `worker`; told empty, where the last token ends.
+    /// A function `worker` takes one `int` and returns nothing; reported as an empty span, where the last token ends.
     #[error("no worker")]
     NoWorker,
-    /// A function that is declared is defined; told at the name of its first prototype.
+    /// A declared function is defined; reported at the name of its first prototype.
     #[error("not defined")]
     NotDefined,
-    /// No `printf`, and no call of a function that is not safe, stands in an atomic transaction.
+    /// An atomic transaction contains no `printf`, and no call of a function that is not safe.
     #[error("unsafe in atomic")]
     UnsafeInAtomic,
-    /// No relaxed transaction stands in an atomic one.
+    /// An atomic transaction contains no relaxed one.
     #[error("relaxed in atomic")]
     RelaxedInAtomic,
-    /// A cancel stands in an atomic transaction.
+    /// A cancel is in an atomic transaction.
     #[error("cancel outside atomic")]
     CancelOutsideAtomic,
-    /// A function that is declared safe is safe; told at its name where it is defined.
+    /// A function that is declared safe is safe; reported at its name in the definition.
     #[error("transaction_safe on an unsafe function")]
     NotSafe,
-    /// No outer transaction, and no call of a function that leads to one, stands in an atomic transaction.
+    /// An atomic transaction contains no outer one, and no call of a function that leads to one.
     #[error("outer in atomic")]
     OuterInAtomic,
-    /// An outer cancel stands in an outer transaction.
+    /// An outer cancel is in an outer transaction.
     #[error("outer cancel outside outer")]
     CancelOutsideOuter,
-    /// `worker` uses globals in transactions alone.
+    /// `worker` uses globals only in transactions.
     #[error("shared access outside a transaction")]
     BareAccess,
-    /// `worker` calls functions that touch shared data in transactions alone.
+    /// `worker` calls functions that touch shared data only in transactions.
     #[error("call touches shared data outside a transaction")]
     BareCall,
 }
 
 impl Rule {
-    /// The number of the fault that breaks it.
+    /// The number of the fault that violates the rule.
     pub fn number(self) -> u32
         ensures { result ≡ number_of self }
     {
@@ -102,7 +102,7 @@ pub struct Violation {
     pub at: Span,
 }
 
-/// The violation of a rule that is not met there.
+/// The violation of a rule at this span, if it is not met.
 pub fn unless_met(met: bool, rule: Rule, at: Span) -> Option<Violation>
     ensures { unmet_in result ≡ first_unmet (demand (number_of rule) at met) }
 {
@@ -113,17 +113,17 @@ pub fn unless_met(met: bool, rule: Rule, at: Span) -> Option<Violation>
     }
 }
 
-/// Why a check refuses a program: it comes back as it was given.
+/// Why a check rejects a program, which is returned unchanged.
 #[derive(Drop)]
 pub enum Refused<T> {
-    /// A growth was refused. It says nothing of the program.
+    /// An allocation failure, which says nothing of the program.
     OutOfMemory(T),
     /// The first rule that the program breaks.
     Broken(T, Violation),
 }
 
 impl<T> Refused<T> {
-    /// The fault's number: 0 where memory was refused, and else the rule's.
+    /// The fault's number: 0 for an allocation failure, and else the rule's.
     pub fn number(&self) -> u32
         ensures { result ≡ number_in self.now }
     {
@@ -133,7 +133,7 @@ impl<T> Refused<T> {
         }
     }
 
-    /// Where the fault stands in the text. Want of memory stands nowhere.
+    /// The span of the fault in the text. An allocation failure has none.
     pub fn span(&self) -> Option<Span>
         ensures { result ≡ place_in self.now }
     {
@@ -143,7 +143,7 @@ impl<T> Refused<T> {
         }
     }
 
-    /// Gives the program back.
+    /// Returns the program.
     pub fn into_inner(self) -> T
         ensures { result ≡ returned_in self }
     {

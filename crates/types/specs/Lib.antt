@@ -1,6 +1,6 @@
--- what the call says
+-- the contract of the call
 pub mod Answers
 -- the items of a block
 pub mod BlockItems
--- what private functions answer
+-- definitions for private functions
 pub mod inner

@@ -1,11 +1,11 @@
--- What the private functions answer; no public contract cites it.
+-- Definitions for private functions; no public contract cites them.
 -- the first demand that is not met
 pub mod Unmet
--- what names are known as
+-- the kinds of names
 pub mod Scopes
 pub mod Symbols
 pub mod Known
--- what is found out item by item
+-- the results of checking item by item
 pub mod Bodies
 pub mod Found
 -- formats

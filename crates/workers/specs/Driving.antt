@@ -1,4 +1,4 @@
--- Workers after their loops, and what a run of all threads reports.
+-- Workers after their loops, and the report of a run of all threads.
 use Rattle.std.specs.Prelude.{◌≡◌, ◌⊎◌, ◌<◌, ◌≤◌, ℕ, List, [], ◌∷◌, Option, None, Some}
 use Rattle.atomic_table.specs.Seated.{TableId}
 use Rattle.syntax.specs.Behaviours.{Behaviour}
@@ -21,13 +21,13 @@ use Rattle.shared_words.specs.Saying.{IsExplainedAtSeats}
 use Rattle.workers.specs.Workers.{AreWorkersOf}
 use Rattle.workers.specs.Closing.{AllHere, Closes, Holds, NoneHolds}
 
--- a thread that no stop ended is over and has made no more than all its steps, or has made just these; one that a stop
--- ended runs still, has made fewer, and its next step was not made for this reason
+-- a thread that no stop ended has terminated within its steps, or has made exactly these; one that a stop ended still
+-- runs, has made fewer, and its next step was not made for this reason
 abbrev pub EndsBy : Option Stop → Code → Thread Configuration → (all steps : ℕ) → Type 0
 EndsBy None code th all steps = (steps ≤ all) × (th.status ≡ Running → steps ≡ all)
 EndsBy (Some e) code th all steps = (th.status ≡ Running) × (steps < all) × Because e code th
 
--- why nothing is reported: the number of threads is refused exactly where it is not 1 to 64
+-- why nothing is reported: the number of threads is refused exactly if it is not 1 to 64
 abbrev pub IsRunRefused : RunFault → ℕ → Type 0
 IsRunRefused OutOfMemory threads = IsWorkerCount threads
 IsRunRefused Threads threads = (threads ≡ 0) ⊎ (64 < threads)
@@ -52,13 +52,13 @@ module _ {A : Type 0} where
   AreEnded key all (w ∷ ws) (e ∷ es) =
       ((e.number ≡ w.number) × IsEndOfLoop key all e.stopped w) × AreEnded key all ws es
 
-  -- the words, where no worker's thread has the lock; else the thread that has it
+  -- the words, if no worker's thread has the lock; otherwise the thread that has it
   abbrev pub IsMemoryOf : RunMemory → List (Worker A) → List ℕ → Type 0
   IsMemoryOf (Words v) ws cells = (v.items ≡ cells) × NoneHolds ws
   IsMemoryOf (LockHeld n) ws cells = Holds ws n
 
-  -- One world, which some list of steps of the machine leads to, has all threads as they are reported, and its words
-  -- are those reported. Each merge of its records is a run of the program in which every thread stands.
+  -- One world, which some list of steps of the machine leads to, has all threads and the words as reported. Each merge
+  -- of its records is a run of the program that contains every thread's state.
   pub record Ran (does : Behaviour) (key : Setup) (all : ℕ) (r : RunReport A) : Type 0 where
     pub table : TableId
     pub workers : List (Worker A)

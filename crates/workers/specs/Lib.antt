@@ -1,14 +1,14 @@
--- what contracts see of halls, workers and threads of closed halls
+-- the contracts' view of halls, workers and threads of closed halls
 pub mod Seen
--- what a worker has done
+-- the work that a worker has done
 pub mod Works
 -- workers of a hall
 pub mod Workers
 -- why a hall is not opened
 pub mod Opening
--- what is left when a hall is closed
+-- the result of closing a hall
 pub mod Closing
--- workers after their loops, and what a run of all threads reports
+-- workers after their loops, and the report of a run of all threads
 pub mod Driving
--- what only private functions and proofs speak of
+-- definitions for private functions and proofs only
 pub mod inner

@@ -1,4 +1,4 @@
--- What contracts see of a hall, of its workers, and of the threads of a closed hall.
+-- The contracts' view of a hall, of its workers, and of the threads of a closed hall.
 use Rattle.std.specs.Prelude.{ℕ}
 use Rattle.atomic_table.specs.Seated.{TableId}
 use Rattle.bytecode.specs.Code.{Configuration}
@@ -24,11 +24,11 @@ module _ {A : Type 0} where
   abbrev pub worker_number : Worker A → ℕ
   worker_number w = w.number
 
-  -- the worker's thread as it stands, with what was prepared of its next step
+  -- the worker's current thread, with the preparation of its next step
   abbrev pub state_of : Worker A → ThreadState
   state_of w = w.thread
 
-  -- where the worker's thread stands
+  -- the state of the worker's thread
   abbrev pub thread_of : Worker A → Thread Configuration
   thread_of w = w.thread.thread
 
@@ -40,11 +40,11 @@ module _ {A : Type 0} where
   abbrev pub accesses_of : Worker A → ℕ
   accesses_of w = w.thread.accesses
 
-  -- what the worker has counted of its thread's attempts
+  -- the worker's tally of its thread's attempts
   abbrev pub tally_of : Worker A → Tally
   tally_of w = w.tally
 
-  -- of a thread of a closed hall its number, where it stands, its steps, the accesses among them, and its tally
+  -- of a thread of a closed hall its number, its state, its steps, the accesses among them, and its tally
   abbrev pub finished_number : Finished A → ℕ
   finished_number f = f.number
 

@@ -2,7 +2,7 @@
 pub mod Seated
 -- steps of a worker that are not yet counted
 pub mod Stepping
--- loops of workers on the way
+-- loops of workers in progress
 pub mod Driving
 -- the parts of workers
 pub mod Closing

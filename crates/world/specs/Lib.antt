@@ -2,9 +2,9 @@
 pub mod Simulations
 -- threads that rest between their transactions
 pub mod Resting
--- why a world is not opened, or a list of steps not made to its end
+-- why a world is not opened, or a list of steps not completed
 pub mod Stops
--- what a world leaves
+-- the report of a world
 pub mod Reports
 -- what only private functions and proofs cite
 pub mod inner

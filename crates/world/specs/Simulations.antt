@@ -1,4 +1,4 @@
--- A world of the machine as its contracts see it: what runs, and the steps that were made. All else follows from these.
+-- A world of the machine as its contracts see it: the code, and the steps that were made. All else follows from these.
 use Rattle.std.specs.Prelude.{◌≡◌, ◌+◌, ◌%◌, ◌⊎◌, ℕ, Bool, true, false, List, ◌∷◌, ◌++◌, Option, None, Some, option_map}
 use Rattle.std.specs.Prelude.{take}
 use Rattle.std.specs.List.{slice_get}
@@ -29,7 +29,7 @@ use Rattle.machine.specs.Tallies.{BeginsFree, IsOpenAfter, IsOverAfter, IsUndist
 use Rattle.machine.specs.Threads.{access, step_with}
 use Rattle.machine.specs.Worlds.{Part, Reached, World, answer, new_world, step}
 
--- a code, how many threads run it, and the thread of each step that was made
+-- a code, the number of threads that run it, and the thread of each step that was made
 pub record Simulation : Type 0 where
   pub code : Code
   pub threads : ℕ
@@ -47,7 +47,7 @@ part_of s t = slice_get (world_of s).parts t
 abbrev pub further : Simulation → List ℕ → Simulation
 further s ts = record s { trace = s.trace ++ ts }
 
--- a world after the first n of its steps alone
+-- a world after only the first n of its steps
 abbrev pub earlier : Simulation → ℕ → Simulation
 earlier s n = record s { trace = take n s.trace }
 
@@ -59,7 +59,7 @@ stops_next code (Some p) = stops (access (effect code) p.thread)
 abbrev pub stops_at : Simulation → ℕ → Bool
 stops_at s t = stops_next s.code (part_of s t)
 
--- what happens in a thread's next step
+-- the events of a thread's next step
 abbrev pub event_next : Code → World Configuration → Option (Part Configuration) → Event
 event_next code w None = event.Quiet
 event_next code w (Some p) =
@@ -68,7 +68,7 @@ event_next code w (Some p) =
 abbrev pub event_at : Simulation → ℕ → Event
 event_at s t = event_next s.code (world_of s) (part_of s t)
 
--- what is shown of a thread's next step
+-- the display of a thread's next step
 abbrev pub shown_by : Code → World Configuration → Part Configuration → StepShown
 shown_by code w p =
     let a = access (effect code) p.thread in
@@ -87,14 +87,14 @@ shown_next code w o = option_map (shown_by code w) o
 abbrev pub shown_at : Simulation → ℕ → Option StepShown
 shown_at s t = shown_next s.code (world_of s) (part_of s t)
 
--- how a thread is, and what it has printed
+-- a thread's status, and the text it has printed
 abbrev pub status_at : Simulation → ℕ → Option Status
 status_at s t = option_map (λ (p : Part Configuration). p.thread.status) (part_of s t)
 
 abbrev pub output_at : Simulation → ℕ → Option (List ℕ)
 output_at s t = option_map (λ (p : Part Configuration). p.thread.text) (part_of s t)
 
--- The thread that has the lock. While none has it the lock is even.
+-- The thread that has the lock. If there is none, the lock is even.
 abbrev pub IsHolder : World Configuration → Option ℕ → Type 0
 IsHolder w None =
     (w.lock % 2 ≡ 0)
@@ -103,11 +103,11 @@ IsHolder w (Some t) =
     (w.lock % 2 ≡ 1)
     × ((p : Part Configuration) × (slice_get w.parts t ≡ Some p) × (thread_has_lock p.thread ≡ true))
 
--- how many accesses to the lock or the words a thread's next step makes
+-- the number of accesses to the lock or the words in a thread's next step
 abbrev pub cost_next : Code → Option (Part Configuration) → ℕ
 cost_next code o = tallies.cost_next (effect code) o
 
--- how many accesses these steps of all threads make from a world on
+-- the number of accesses to the lock or the words in these steps of all threads, from a world on
 abbrev pub accesses_in : Code → List ℕ → World Configuration → ℕ
 accesses_in code ts w = tallies.accesses_in (effect code) ts w
 
@@ -119,9 +119,8 @@ abbrev pub transactions_of : Simulation → List Step
 transactions_of s =
     run_of (merge_after (effect s.code) (beginning s.code) (initial_of s.code) s.threads s.trace)
 
--- By how many the accesses of all threads grow over an undisturbed transaction: from where no thread has the lock and
--- thread t is about to begin an outermost one, over this begin, steps of t in its attempt, and local steps of other
--- threads.
+-- The growth in the accesses of all threads over an undisturbed transaction: no thread has the lock, thread t is about
+-- to begin an outermost one, and then this begin, steps of t in its attempt and local steps of other threads follow.
 abbrev pub CountsAccesses : Simulation → Type 0
 CountsAccesses s = (t : ℕ) (p : Part Configuration) (us : List ℕ) (k : ℕ) →
     BeginsFree (effect s.code) (world_of s) t p →
@@ -130,15 +129,15 @@ CountsAccesses s = (t : ℕ) (p : Part Configuration) (us : List ℕ) (k : ℕ) 
     IsOpenAfter (effect s.code) (world_of s) t p k (world_of (further s (t ∷ us)))
     ⊎ IsOverAfter (effect s.code) (world_of s) t p k (world_of (further s (t ∷ us)))
 
--- What holds of every world: none of its steps was one that stops; its transactions are one after another, in the order
--- of time, each attempt has a moment, and later runs extend earlier ones. So it is for the code, and for every program
--- that the code means. What a thread begins from here on, where it has no attempt, stands behind all that has taken
--- effect. All attempts, the dropped ones too, stand in one order, which is that of time. Each attempt, also one that
--- will be dropped, is where its code's meaning comes on the memory of its moment. A thread has been dropped at most
--- once for each transaction of another thread that took the lock, and once more while the lock is held. Each step made,
--- and the next one of each thread, drops an attempt only where validation loaded the word of an entry of the read log
--- and found another one, and where the lock was taken since the last snapshot. From here on a thread that has the lock
--- never aborts, and the accesses of an undisturbed transaction are those that the code's meaning tells.
+-- Properties of every world: none of its steps stops, its transactions are in real-time order, each attempt has a
+-- moment, and later runs extend earlier ones. This holds for the code, and for every program that the code means. If a
+-- thread has no attempt, the transactions that it begins from here on come after all that has taken effect. All
+-- attempts, including the aborted ones, are in one order, which is real-time order. Each attempt, even one that will
+-- abort, is in the state that its code's meaning reaches on the memory of its moment. A thread has aborted at most once
+-- for each transaction of another thread that took the lock, and once more while the lock is held. Each step made, and
+-- the next one of each thread, aborts an attempt only if validation loaded the word of an entry of the read log and
+-- found another one, and if the lock was taken since the last snapshot. From here on a thread that has the lock never
+-- aborts, and an undisturbed transaction makes the accesses that the code's meaning counts.
 pub record IsExplained (s : Simulation) : Type 0 where
   pub reached : Reached (effect s.code) (beginning s.code) (initial_of s.code) s.threads (world_of s)
   pub code : IsOpaque (effect s.code) (beginning s.code) (meaning (effect s.code) (beginning s.code)) (bounds_of s.code)
@@ -157,8 +156,8 @@ pub record IsExplained (s : Simulation) : Type 0 where
   pub holders : HoldersNeverAbort (effect s.code) (world_of s)
   pub counts : CountsAccesses s
 
--- What a program whose threads the code means does alone, a world of one thread does in some number of steps, and stays
--- there.
+-- The behaviour of a program alone, if the code means its threads, is that of a world of one thread after some number
+-- of steps, and later ones leave it unchanged.
 abbrev pub EndsAlone : Code → Type 0
 EndsAlone code = (program : Program) (run : List Step) (n : ℕ) →
     Means (bounds_of code) (meaning (effect code) (beginning code)) (thread program) →

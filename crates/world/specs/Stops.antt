@@ -1,4 +1,4 @@
--- Why a world is not opened, and why a list of steps was not made to its end.
+-- Why a world is not opened, and why a list of steps was not completed.
 use Rattle.std.specs.Prelude.{◌≡◌, ◌<◌, ◌≤◌, ℕ, true, false}
 use Rattle.world.specs.Simulations.{Simulation, stops_at}
 use Rattle.world.specs.declared.stop.StopReason.{StopReason}

@@ -1,4 +1,4 @@
--- what a world keeps, and which accesses can be made
+-- the invariant of a world, and the possible accesses
 pub mod Following
--- what the next step of a thread counts
+-- the cost of a thread's next step
 pub mod Costs

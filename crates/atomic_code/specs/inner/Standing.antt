@@ -7,7 +7,7 @@ use Rattle.bytecode.specs.Beginning.{beginning}
 use Rattle.bytecode.specs.Sequential.{start, steps}
 use Rattle.atomic_code.specs.Threads.{AtomicThread, RunsAtomically, meaning_thread}
 
--- after so many instructions the thread has left these memories, and stands outside transactions
+-- after this many instructions the thread has left these memories, and is outside transactions
 pub record HasComeTo (code : Code) (t : ℕ) (founds : List Memory) (most made : ℕ) (lefts : List Memory)
     (k : AtomicThread)
     : Type 0 where

@@ -1,4 +1,4 @@
--- How the functions' codes lie one after another.
+-- The layout of the functions' codes, one after another.
 use Rattle.std.specs.Prelude.{◌≡◌, ◌<◌, List, [], ◌∷◌}
 use Rattle.bytecode.specs.Code.{Code, FunctionCode}
 use Rattle.bytecode.specs.Valid.{end_before}

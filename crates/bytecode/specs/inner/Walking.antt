@@ -1,4 +1,4 @@
--- How ways through a function are followed: what an instruction does with the place and with the open begins.
+-- How paths through a function are followed: what an instruction does to the place and to the open begins.
 use Rattle.std.specs.Prelude.{ℕ, zero, suc, ◌-◌, List, [], ◌∷◌, ◌++◌, Bool, true, false, Option, Some, None, slice_get}
 use Rattle.std.specs.Prelude.{slice_set, nat_lt, if◌then◌else◌, ◌==◌}
 use Rattle.bytecode.specs.Code.{Instr}
@@ -7,7 +7,7 @@ use Rattle.bytecode.specs.declared.walk.Arrival.TheVariants.{Unseen, Outside, In
 use Rattle.bytecode.specs.declared.walk.Successor.{Successor}
 use Rattle.bytecode.specs.declared.walk.Successor.TheVariants.{On, To, Both, Opens, Closes, Cancels, CancelsOuter, Ends}
 
--- where an instruction leads
+-- the successors of an instruction
 abbrev pub way_of : Instr → Successor
 way_of (Instr.Jump to) = To to
 way_of (Instr.JumpZero a to) = Both to
@@ -19,7 +19,7 @@ way_of (Instr.CancelOuter n) = CancelsOuter n
 way_of (Instr.Return a) = Ends
 way_of i = On
 
--- the arrivals at a function's places, from its first one on, and the places that ways have come to and not gone on
+-- the arrivals at a function's places, from its first one on, and the places that have been reached and not continued
 -- from
 abbrev pub Arrivals : Type 0
 Arrivals = List Arrival
@@ -33,7 +33,7 @@ same_arrival Outside Outside = true
 same_arrival (Inside b) (Inside c) = b == c
 same_arrival _ _ = false
 
--- a way comes to a place that has this arrival: the arrivals and places after it, or nothing where it may not come
+-- a path reaches a place that has this arrival: the arrivals and places after it, or nothing if it must not
 abbrev pub arrive_with : ℕ → Arrivals → List ℕ → ℕ → Arrival → Option Arrival → Option (Arrivals × List ℕ)
 arrive_with first ms work q m None = None
 arrive_with first ms work q m (Some Unseen) = Some (slice_set ms (q - first) m, work ++ q ∷ [])
@@ -43,19 +43,19 @@ arrive_with first ms work q m (Some (Inside b)) = if same_arrival (Inside b) m t
 abbrev pub visit_place : ℕ → Arrivals → List ℕ → ℕ → Arrival → Option (Arrivals × List ℕ)
 visit_place first ms work q m = arrive_with first ms work q m (arrival_at first ms q)
 
--- what a call that answers yes or no gives
+-- the result of a call that answers yes or no
 abbrev pub walk_answer : Bool → Arrivals → List ℕ → Option (Arrivals × List ℕ)
 walk_answer true ms work = Some (ms, work)
 walk_answer false ms work = None
 
--- back under the begin that encloses another: its arrival
+-- back inside the begin that encloses another: its arrival
 abbrev pub reopen_begin : ℕ → Arrivals → List ℕ → ℕ → Option Arrival → Option (Arrivals × List ℕ)
 reopen_begin first ms work to None = None
 reopen_begin first ms work to (Some Unseen) = None
 reopen_begin first ms work to (Some Outside) = visit_place first ms work to Outside
 reopen_begin first ms work to (Some (Inside c)) = visit_place first ms work to (Inside c)
 
--- where a cancel of the begin that stands here goes on
+-- where a cancel of the begin here continues
 abbrev pub begun_by : Instr → Option ℕ
 begun_by (Instr.Begin to) = Some to
 begun_by i = None
@@ -68,7 +68,7 @@ abbrev pub cancel_to : ℕ → Arrivals → List ℕ → Option Arrival → Opti
 cancel_to first ms work o (Some to) = reopen_begin first ms work to o
 cancel_to first ms work o None = None
 
--- the begin round this one in which it lies, and so on so many times: the arrival at a begin tells which one it is
+-- the begin that encloses this one, and so on n times: the arrival at a begin says which one encloses it
 abbrev pub begin_in : Option Arrival → (ℕ → Option ℕ) → Option ℕ
 begin_in (Some (Inside c)) on = on c
 begin_in o on = None
@@ -85,7 +85,7 @@ abbrev pub twice : ℕ → ℕ → Arrival → Option (Arrivals × List ℕ) →
 twice first to m None = None
 twice first to m (Some s) = visit_place first s.0 s.1 to m
 
--- a way goes on from a place, by its instruction
+-- a path continues from a place, by its instruction
 abbrev pub went_by : List Instr → ℕ → Arrivals → List ℕ → ℕ → Arrival → Successor → Option (Arrivals × List ℕ)
 went_by is first ms work q m On = visit_place first ms work (suc q) m
 went_by is first ms work q m (To to) = visit_place first ms work to m

@@ -1,4 +1,4 @@
--- What one step of the lexer answers: a kind, or none for what stands between tokens, and a length.
+-- The result of one step of the lexer: a kind, or none for what separates tokens, and a length.
 use Rattle.std.specs.Prelude.{ℕ, List, Option, Some, None, Result, Ok, Err}
 use Rattle.lex.specs.declared.token.Kind.{Kind}
 use Rattle.lex.specs.declared.fault.LexFault.{LexFault}

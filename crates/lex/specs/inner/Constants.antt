@@ -1,4 +1,4 @@
--- What stands at the front of a text that begins with a digit.
+-- The prefix of a text that begins with a digit.
 use Rattle.std.specs.Prelude.{◌≡◌, ℕ, ◌+◌, ◌^◌, ◌≤◌, Bool, false, ◌&&◌, ◌||◌, ◌==◌, if◌then◌else◌, List, [], ◌∷◌, drop}
 use Rattle.std.specs.Prelude.{slice_index, Option, Some, None}
 use Rattle.std.specs.List.{prefix_len}
@@ -17,7 +17,7 @@ base_at rest =
     else Octal)
     else Decimal
 
--- how many bytes a base puts before its digits
+-- the length of a base's prefix
 abbrev pub before_len : Base → ℕ
 before_len Decimal = 0
 before_len Octal = 1
@@ -54,12 +54,12 @@ abbrev pub constant_len : List ℕ → ℕ
 constant_len rest =
     before_len (base_at rest) + digits_len rest + suffix_len (drop (before_len (base_at rest) + digits_len rest) rest)
 
--- a number that the largest type holds, or none where it is larger
+-- a number that the largest type holds, or none if it is larger
 abbrev pub GivesNumber : Option ℕ → ℕ → Type 0
 GivesNumber (Some n) v = n ≡ v
 GivesNumber None v = 2 ^ 63 ≤ v
 
--- a value with its type, or none where it has no type
+-- a value with its type, or none if it has no type
 abbrev pub GivesTyped : Option (ℕ × Scalar) → Base → Suffix → ℕ → Type 0
 GivesTyped (Some x) base s v = (x.0 ≡ v) × (type_of (is_decimal base) s v ≡ Some x.1)
 GivesTyped None base s v = type_of (is_decimal base) s v ≡ None

@@ -26,7 +26,7 @@ doubles =
 abbrev pub triples : List Punctuator
 triples = punct.ShiftLeftAssign ∷ punct.ShiftRightAssign ∷ []
 
--- the punctuator of a list that is spelled so
+-- the punctuator of a list with this spelling
 abbrev pub spelled_so : List Punctuator → List ℕ → Option Fixed
 spelled_so [] w = None
 spelled_so (k ∷ ks) w =
@@ -50,7 +50,7 @@ three (a ∷ []) = None
 three (a ∷ b ∷ []) = None
 three (a ∷ b ∷ c ∷ rest) = spelled_so triples (a ∷ b ∷ c ∷ [])
 
--- a punctuator with its length, and where there is none what else there is
+-- a punctuator with its length, or else the alternative
 abbrev pub with_length : ℕ → Option Fixed → Option (Fixed × ℕ) → Option (Fixed × ℕ)
 with_length n None other = other
 with_length n (Some m) other = Some (m, n)

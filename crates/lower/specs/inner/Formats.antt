@@ -1,4 +1,4 @@
--- What the code of a format is, directive by directive.
+-- The code of a format, directive by directive.
 use Rattle.std.specs.Prelude.{ℕ, ◌+◌, List, [], ◌∷◌, ◌++◌, length}
 use Rattle.lex.specs.declared.token.Scalar.{Scalar}
 use Rattle.syntax.specs.Formats.{Piece, literal}
@@ -12,7 +12,7 @@ abbrev pub with_literal : List ℕ → List Piece → List Piece
 with_literal [] ps = ps
 with_literal (c ∷ cs) ps = literal c (with_literal cs ps)
 
--- a literal text, where there is any
+-- a literal text, if there is one
 abbrev pub text_written : List ℕ → ℕ → Lists → Written
 text_written [] from l = nothing_written from l
 text_written (c ∷ cs) from l = record {
@@ -21,7 +21,7 @@ text_written (c ∷ cs) from l = record {
   to = from + 1;
 }
 
--- a literal text, where there is any, and a number behind it
+-- a literal text, if there is one, and a number after it
 abbrev pub specifier_written : List ℕ → Scalar → ℕ → ℕ → Lists → Written
 specifier_written text t r from l =
     let before = text_written text from l in and_then before (one_written (printing t r) before.to before.lists)

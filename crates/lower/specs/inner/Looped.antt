@@ -1,4 +1,4 @@
--- With which constants the loops of a function compute, as it is found out.
+-- The constants that are operands in a function's loops, as collected so far.
 use Rattle.selection.specs.Loops.{Looped}
 use Rattle.lower.specs.declared.loops.Looped.{Looped as OwnLooped}
 

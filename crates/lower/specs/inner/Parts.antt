@@ -1,5 +1,5 @@
--- What is made of a program so far, and why no code is made of a definition, of an item and of a program in which no
--- transaction lies too deep.
+-- The code generated so far for a program, and why none is generated for a definition, an item or a program whose
+-- transactions are not nested too deeply.
 use Rattle.std.specs.Prelude.{◌≡◌, ◌<◌, ◌++◌, ◌∷◌, [], ℕ, List, map, Contains}
 use Rattle.syntax.specs.Tree.{Function, Item, Defines, Program}
 use Rattle.bytecode.specs.Code.{FunctionCode}
@@ -21,28 +21,28 @@ module _ {A : Type 0} where
     to = m.to;
   }
 
--- what is made of items, and behind it what is made of others
+-- the code of items, and after it that of others
 abbrev pub made_behind : FunctionCodes → FunctionCodes → FunctionCodes
 made_behind a b =
     record { functions = a.functions ++ b.functions; code = a.code ++ b.code; lists = b.lists; to = b.to }
 
--- what is made of one definition
+-- the code of one definition
 abbrev pub made_once : Function → ℕ → Written → FunctionCodes
 made_once f from w =
     record { functions = function_code f from w ∷ []; code = w.code; lists = w.lists; to = w.to }
 
--- why no code is made of a definition that needs so many registers, behind which there are so many instructions
+-- why a definition that needs so many registers gets no code, if there are so many instructions after it
 abbrev pub IsOfDefinition : Function → (registers instructions : ℕ) → LowerFault → Type 0
 IsOfDefinition f registers instructions OutOfMemory = Unit {0}
 IsOfDefinition f registers instructions (TooManyRegisters at) = (at ≡ f.name.span) × (65535 < registers)
 IsOfDefinition f registers instructions (TooMuchCode at) = (at ≡ f.name.span) × (1048576 < instructions)
 IsOfDefinition f registers instructions (NestedTooDeep at) = ⊥
 
--- one of these codes is of this function's name and needs too many registers
+-- one of these codes has this function's name and needs too many registers
 abbrev pub NeedsTooManyIn : Function → List FunctionCode → Type 0
 NeedsTooManyIn f codes = (g : FunctionCode) × Contains codes g × (g.name ≡ f.name.text) × (65535 < g.registers)
 
--- why no code is made of an item that has these codes, behind which there are so many instructions
+-- why an item with these codes is refused, if there are so many instructions after it
 abbrev pub IsOfItem : Item → List FunctionCode → ℕ → LowerFault → Type 0
 IsOfItem item codes instructions OutOfMemory = Unit {0}
 IsOfItem (Defines f) codes instructions (TooManyRegisters at) = (at ≡ f.name.span) × NeedsTooManyIn f codes

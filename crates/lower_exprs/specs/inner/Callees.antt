@@ -1,4 +1,4 @@
--- What a function that may be called holds.
+-- The contents of a function that may be called.
 use Rattle.std.specs.Prelude.{map}
 use Rattle.syntax.specs.Views.{parameter_of}
 use Rattle.selection.specs.Names.{Callee}

@@ -1,4 +1,4 @@
--- Stretches of which a part stands there already, and that of an assignment's aim.
+-- Fragments of which a part is emitted already, and that of an assignment's target.
 use Rattle.std.specs.Prelude.{ℕ, ◌+◌, List, [], Vec, Result}
 use Rattle.syntax.specs.declared.tree.LogicalOp.{LogicalOp}
 use Rattle.bytecode.specs.declared.instr.Instr.{Instr}
@@ -15,7 +15,7 @@ use Rattle.lower_exprs.specs.declared.lists.Lists.{Lists as OwnLists}
 use Rattle.lower_exprs.specs.Lists.{lists_of}
 use Rattle.lower_exprs.specs.Fragments.{Fragment, Adds}
 
--- a value with its instructions, one whose instructions stand there already, several such ones, and a condition
+-- a value with its instructions, one whose instructions are emitted already, several such ones, and a condition
 abbrev pub standing : List Instr → ValueRegister → Lists → Emitted
 standing code a l = record { code = code; lists = l; location = a }
 
@@ -28,7 +28,7 @@ all_in_place rs to l = record { code = []; lists = l; registers = rs; to = to }
 abbrev pub test_in_place : List Draft → ConditionRegister → Lists → Condition
 test_in_place code t l = record { code = code; lists = l; register = t.register; at_zero = t.at_zero; to = t.to }
 
--- the first condition of `&&` and `||` and its jump, up to the place behind
+-- the first condition of `&&` and `||` and its jump, up to the place after it
 abbrev pub of_first : LogicalOp → Condition → Fragment Draft ℕ
 of_first op c = record { code = first_of op c; lists = c.lists; end = c.to + 1 }
 

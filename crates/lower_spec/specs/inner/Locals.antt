@@ -1,4 +1,4 @@
--- The locals behind statements.
+-- The locals after statements.
 use Rattle.std.specs.Prelude.{[], ◌∷◌}
 use Rattle.syntax.specs.Tree.{Stmts}
 use Rattle.lower_spec.specs.Expressions.{LocalScope}

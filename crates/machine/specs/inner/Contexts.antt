@@ -1,4 +1,4 @@
--- A thread as code keeps it: of each open begin the registers of the frame on top, the number of frames and the place.
+-- A thread as code stores it: for each open begin the registers of the top frame, the number of frames and the place.
 use Rattle.std.specs.Prelude.{◌≡◌, ◌<◌, ◌≤◌, ℕ, suc, Bool, true, false, List, [], Option, None, Some, length, ◌-◌}
 use Rattle.std.specs.Prelude.{string_bytes, string_len, string_capacity}
 use Rattle.std.specs.List.{AllByRecursion}
@@ -36,7 +36,7 @@ pub record PlainContext : Type 0 where
   pub text : List ℕ
   pub status : Status
 
--- what a thread of the program's own types keeps, and what is ready for its step
+-- the thread's state in the program's own types, and the preparation of its step
 abbrev pub context_of : {A : Type 0} → ThreadContext A → PlainContext
 context_of t = record {
   configuration = t.frames.configuration;
@@ -56,13 +56,13 @@ ready t = record {
   text_room = string_capacity t.text - string_len t.text;
 }
 
--- there is no room for what an instruction with this effect adds by itself: a call a frame, a print its piece
+-- there is no capacity for the addition of an instruction with this effect: a call's frame, a print's piece
 abbrev pub LacksRoom : Code → Configuration → (calls text : ℕ) → Effect Configuration → Type 0
 LacksRoom code c calls text (Print piece d) = 0 < length piece → text < length piece
 LacksRoom code c calls text (Pure d) = HasRoom code (record { configuration = c; room = calls }) → ⊥
 LacksRoom code c calls text _ = ⊥
 
--- what was prepared costs so many accesses
+-- the prepared step costs this many accesses
 abbrev pub cost_if : Option Access → ℕ
 cost_if None = 0
 cost_if (Some x) = cost x
@@ -71,7 +71,7 @@ cost_if (Some x) = cost x
 abbrev pub shown_from : Configuration → Option (Attempt Saved) → Option (Attempt Configuration)
 shown_from c o = if_some (attempt_as (begin_configuration c)) o
 
--- the machine's thread that a context stands for
+-- the machine's thread that a context denotes
 abbrev pub machine_thread : PlainContext → Thread Configuration
 machine_thread k = record {
   configuration = k.configuration;
@@ -85,7 +85,7 @@ machine_thread k = record {
 abbrev pub AreWithin : Configuration → List Saved → Type 0
 AreWithin c ss = AllByRecursion (λ (s : Saved). (0 < s.frames) × (s.frames ≤ suc (length c.frames))) ss
 
--- a thread that runs, and one that is over
+-- a running thread, and one that has terminated
 pub record RunsInContext (code : Code) (k : PlainContext) : Type 0 where
   pub stands : MayStand code k.configuration (begins_of k.core.attempt)
   pub words : GivesWordsIf k.core.attempt
@@ -98,7 +98,7 @@ ContextWith code k (HasTrapped cause) = k.core.attempt ≡ None
 abbrev pub IsContextOf : Code → PlainContext → Type 0
 IsContextOf code k = ContextWith code k k.status
 
--- what is to be done, asked of the core
+-- the operation requested of the core
 abbrev pub op_by : Doing → (kept trapping : Bool) → Option Op
 op_by (doing.Begin to) context_of trapping = Some op.Begin
 op_by (doing.Read d a) context_of trapping = Some (op.Read a)
@@ -120,7 +120,7 @@ abbrev pub op_asked : Doing → Option (Attempt Saved) → Bool → Option Op
 op_asked x None trapping = op_outside x
 op_asked x (Some a) trapping = op_by x a.kept trapping
 
--- what the thread goes back to after an operation, if it does
+-- the configuration that the thread returns to after an operation, if any
 abbrev pub back_done : Effect Configuration → Configuration → Option Configuration
 back_done Cancel c = Some c
 back_done (CancelOuter n) c = Some c
@@ -131,12 +131,12 @@ back_by x outcome.Done c = back_done x c
 back_by x outcome.Aborted c = Some c
 back_by x _ c = None
 
--- where a thread goes back after an operation, what was saved can be restored, and the thread may stand there
+-- if a thread goes back after an operation, the saved state can be restored, and the thread may be in it
 abbrev pub MayGoBack : Code → Configuration → Saved → Option Configuration → Type 0
 MayGoBack code c s None = Unit {0}
 MayGoBack code c s (Some b) = CanRestore c s × IsConfigurationOf code (begin_configuration c s)
 
--- the event of an operation, by what is left of the attempt
+-- the event of an operation, by the remaining attempt
 abbrev pub commit_told : Option (Attempt Saved) → Event
 commit_told None = event.Commit
 commit_told (Some a) = event.Quiet

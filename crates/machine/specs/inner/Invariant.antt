@@ -1,4 +1,4 @@
--- What each step of the machine keeps. It speaks of a lock, words and a list of parts, and each step changes one part.
+-- The invariant of the machine's steps. It is about a lock, words and a list of parts, and each step changes one part.
 use Rattle.std.specs.Prelude.{◌≡◌, ◌≢◌, ◌<◌, ◌≤◌, ◌+◌, ◌%◌, ◌⊎◌, ℕ, Bool, true, false, List, [], ◌∷◌, ◌++◌, Option}
 use Rattle.std.specs.Prelude.{None, Some, length, map, slice_index}
 use Rattle.std.specs.List.{slice_get, AllByRecursion}
@@ -20,9 +20,9 @@ use Rattle.machine.specs.Worlds.{Record, Part, World}
 use Rattle.machine.specs.Explained.{has_lock, stored_of}
 pub use Rattle.machine.specs.Open.{inside, inner_of, inners_of, inside_of}
 
--- What has been committed: top is the lock value after the last commit, mem the memory at each even lock value up to
--- top, owner the thread that committed from there, holder the thread that has the lock, and stored the pairs that
--- it has stored so far.
+-- The committed history: top is the lock value after the last commit, mem the memory at each even lock value up to top,
+-- owner the thread that committed from there, holder the thread that has the lock, and stored the pairs that it has
+-- stored so far.
 pub record History : Type 0 where
   pub lock : ℕ
   pub top : ℕ
@@ -41,18 +41,18 @@ AreWords bounds pairs = AllByRecursion (λ (p : ℕ × ℕ). p.1 < slice_index b
 
 -- the lock and the words, by the history
 pub record IsHistory (bounds : List ℕ) (h : History) (words : List ℕ) : Type 0 where
-  -- an even value that the lock has is the one after the last commit
+  -- an even lock value is the one after the last commit
   pub even : h.top % 2 ≡ 0
-  -- a lock that is free has the last commit's value, a lock that is held one more
+  -- a free lock has the last commit's value, a held lock one more
   pub lock : LockIs h h.holder
   -- the memory under an even lock, and under a commit that has stored a part of its log
   pub contents : words ≡ overlay (h.mem h.top) h.stored
-  -- what transactions find and leave are memories
+  -- the states that transactions find and leave are memories
   pub memories : (s : ℕ) → s ≤ h.top → IsMemory bounds (h.mem s)
   -- the words stay below their bounds while a commit stores
   pub stored_words : AreWords bounds h.stored
 
--- what a transaction of thread t left: the next memory where it took the lock, else what it found
+-- the memory that a transaction of thread t left: the next one if it took the lock, otherwise the one it found
 abbrev pub LeftIs : History → ℕ → Record → Bool → Type 0
 LeftIs h t x true = (x.snapshot + 2 ≤ h.top) × (h.owner x.snapshot ≡ t) × (x.left ≡ h.mem (x.snapshot + 2))
 LeftIs h t x false = (x.snapshot ≤ h.top) × (x.left ≡ x.found)
@@ -63,7 +63,7 @@ pub record RecordOk (h : History) (t : ℕ) (x : Record) : Type 0 where
   pub even : x.snapshot % 2 ≡ 0
   -- the transaction found the memory at its last snapshot
   pub found : x.found ≡ h.mem x.snapshot
-  -- the transaction is followed by its own memory, or leaves what it found: so runs are chained
+  -- the transaction is followed by its own memory, or leaves the memory that it found: so runs are chained
   pub left : LeftIs h t x x.took_lock
 
 -- the lock value from which a later transaction of the same thread begins
@@ -90,7 +90,7 @@ founds_in xs = map (λ (x : Record). x.found) xs
 abbrev pub lefts_in : List Record → List Memory
 lefts_in xs = map (λ (x : Record). x.left) xs
 
--- the memories that an attempt may have found: those that agree with its read log, and while the lock is kept its base
+-- the memories that an attempt may have found: those that agree with its read log, or its base while the lock is kept
 pub record MayHaveFound (reads : List (ℕ × ℕ)) (kept : Bool) (base m : Memory) : Type 0 where
   pub agrees : Agrees m reads
   pub known : kept ≡ true → m ≡ base
@@ -110,18 +110,18 @@ pub record Moves (t : ℕ) (h k : History) : Type 0 where
   pub lock : h.lock ≤ k.lock
   -- snapshots stay at most the last commit's value
   pub top : h.top ≤ k.top
-  -- what attempts and records found stays there
+  -- the memories that attempts and records found are unchanged
   pub mem : (s : ℕ) → s ≤ h.top → k.mem s ≡ h.mem s
-  -- whoever committed has committed
+  -- past commits are unchanged
   pub owner : (s : ℕ) → s < h.top → k.owner s ≡ h.owner s
   -- a new commit is the stepping thread's own
   pub new : (s : ℕ) → s % 2 ≡ 0 → h.top ≤ s → s < k.top → k.owner s ≡ t
-  -- nobody takes the lock from another thread, or stores for it
+  -- no other thread takes the lock from its holder, or stores for it
   pub holds : (u : ℕ) → u ≢ t → h.holder ≡ Some u → (k.holder ≡ Some u) × (k.top ≡ h.top) × (k.stored ≡ h.stored)
-  -- nobody gives the lock to another thread
+  -- no thread gives the lock to another one
   pub held : (u : ℕ) → u ≢ t → k.holder ≡ Some u → h.holder ≡ Some u
 
--- the operations that validation is made for
+-- the operations that need validation
 abbrev pub Validates : {C : Type 0} → Effect C → Type 0
 Validates (Read cell k) = Unit {0}
 Validates (Commit c) = Unit {0}
@@ -148,17 +148,17 @@ module _ {C : Type 0} (code : C → Effect C) where
       (text : List ℕ) : Type 0 where
     pub c1 : C
     pub text1 : List ℕ
-    -- the meaning enters the transaction here, and a cancel goes on at the same place in both
+    -- the meaning enters the transaction here, and a cancel continues at the same place in both
     pub begins : code a.saved ≡ Begin c1 (after_cancel (code a.saved) a.saved)
-    -- the meaning comes to the begin with just the own founds and lefts: the thread stands
+    -- the meaning reaches the begin with exactly the thread's own founds and lefts: the thread is in its state
     pub comes_to : ComesTo c0 xs a.saved text1 Running
-    -- nothing was printed without the lock, so an abort leaves the text as it was
+    -- nothing was printed without the lock, so an abort leaves the text unchanged
     pub same_text : a.kept ≡ false → text1 ≡ text
-    -- the meaning comes to where the attempt is in every memory that the attempt may have found: so a new snapshot
-    -- costs nothing, and the end is one step of the run
+    -- the meaning reaches the attempt's state in every memory that the attempt may have found: so a new snapshot needs
+    -- no proof, and the end is one step of the run
     pub reaches : Reaches bounds (h.mem a.snapshot) c1 text1 c a text
 
-  -- what holds of the values in hand
+  -- properties of the values in hand
   abbrev pub InHand : History → Attempt C → C → Phase → Type 0
   InHand h a c AtOperation = Unit {0}
   InHand h a c (ReadsLock v) = (ad : ℕ) × (k : ℕ → C) × (code c ≡ Read ad k) × (Lacks ad a.writes) × (a.kept ≡ false)
@@ -168,7 +168,7 @@ module _ {C : Type 0} (code : C → Effect C) where
       × (h.lock ≡ time → AgreesBelow i (h.mem time) a.reads) × Validates (code c)
   InHand h a c (Stores i) = (a.inner ≡ []) × ((d : C) × (code c ≡ Commit d))
 
-  -- what an attempt's own steps mostly leave alone: found is the memory at the snapshot, top the last commit's value
+  -- facts that an attempt's own steps mostly preserve: found is the memory at the snapshot, top the last commit's value
   pub record Steady (bounds : List ℕ) (top : ℕ) (found base : Memory) (status : Status) (first snapshot : ℕ)
       (reads writes : List (ℕ × ℕ)) (inner : List (Checkpoint C)) : Type 0 where
     -- the thread's end is open
@@ -179,39 +179,39 @@ module _ {C : Type 0} (code : C → Effect C) where
     pub since : first ≤ snapshot
     -- the moment is a place of the run
     pub in_time : snapshot ≤ top
-    -- what a record will say that it found
+    -- the memory that a record will say it found
     pub based : base ≡ found
-    -- the moment's memory has all that was read
+    -- the moment's memory agrees with all reads
     pub agrees : Agrees found reads
-    -- what a commit stores: one pair for each cell, below its bound
+    -- the log that a commit stores: one pair for each cell, below its bound
     pub log : IsLog bounds writes
-    -- what a cancel goes back to: one pair for each cell, below its bound
+    -- the log that a cancel returns to: one pair for each cell, below its bound
     pub marks : AllByRecursion (λ (k : Checkpoint C). IsLog bounds k.writes) inner
 
   pub record AttemptOk (bounds : List ℕ) (h : History) (t : ℕ) (c0 : C) (xs : List Record) (base : Memory) (c : C)
       (a : Attempt C) (text : List ℕ) (status : Status) : Type 0 where
     pub steady : Steady bounds h.top (h.mem a.snapshot) base status a.first a.snapshot a.reads a.writes a.inner
-    -- the meaning is where the attempt is
+    -- the meaning is in the attempt's state
     pub begun : Begun bounds h c0 xs c a text
-    -- one holder alone, whose snapshot is the last one, and what it has stored
+    -- a single holder, whose snapshot is the last one, and the pairs that it has stored
     pub holds : LockBy h t a (has_lock a.kept a.phase)
-    -- a word or a validation in hand is right if the lock still has its value, so another thread's step keeps or
-    -- voids it
+    -- a word or a validation in hand is right if the lock still has its value, so another thread's step preserves or
+    -- invalidates it
     pub in_hand : InHand h a c a.phase
 
   abbrev pub Now : List ℕ → History → ℕ → C → List Record → Memory → Thread C → Option (Attempt C) → Type 0
   Now bounds h t c0 xs base th None = ComesTo c0 xs th.configuration th.text th.status × (h.holder ≢ Some t)
   Now bounds h t c0 xs base th (Some a) = AttemptOk bounds h t c0 xs base th.configuration a th.text th.status
 
-  -- one part, by the history: no other part stands in it
+  -- one part, by the history: no other part occurs in it
   pub record PartOk (bounds : List ℕ) (h : History) (t : ℕ) (c0 : C) (p : Part C) : Type 0 where
-    -- what took effect is part of the history
+    -- the transactions that took effect are part of the history
     pub each : AllByRecursion (RecordOk h t) p.records
     -- a merge exists, and no step of the thread is after its attempt's moment
     pub ordered : Ordered 0 p.records (bound_of h p.thread.attempt)
     -- each number occurs in every merge
     pub complete : (s : ℕ) → s % 2 ≡ 0 → s < h.top → h.owner s ≡ t → HasTaker s p.records
-    -- the thread is where its meaning is, or its attempt is
+    -- the thread is in its meaning's state, or its attempt is
     pub now : Now bounds h t c0 p.records p.base p.thread p.thread.attempt
 
   -- the invariant
@@ -222,14 +222,14 @@ module _ {C : Type 0} (code : C → Effect C) where
     pub lock : w.lock ≡ h.lock
     -- runs begin at the initial memory
     pub first : h.mem 0 ≡ m0
-    -- who has the lock is a thread of the world: exactly one has it while it is odd
+    -- the lock's holder is a thread of the world: exactly one has it while it is odd
     pub holder : (t : ℕ) → h.holder ≡ Some t → t < length w.parts
     -- each commit is one of a thread of the world, so it is in every merge
     pub owners : (s : ℕ) → s % 2 ≡ 0 → s < h.top → h.owner s < length w.parts
-    -- each part by the history alone, so a step owes only its own
+    -- each part by the history alone, so a step has only its own to prove
     pub parts : (t : ℕ) (p : Part C) → slice_get w.parts t ≡ Some p → PartOk bounds h t (init t) p
 
-  -- what a step of thread t leaves: a history, further than the one before, with the part and the words by it
+  -- the result of a step of thread t: an extended history, with the part and the words by it
   pub record StepOk (bounds : List ℕ) (t : ℕ) (c0 : C) (h : History) (lock : ℕ) (words : List ℕ)
       (p : Part C) : Type 0 where
     pub after : History

@@ -9,7 +9,7 @@ use Rattle.syntax.specs.Meaning.{call_locals}
 use Rattle.meaning.specs.declared.calls.Begun.{Begun as OwnBegun}
 use Rattle.meaning.specs.inner.SourceThread.{items_in}
 
--- a call that begins: the type of its value, its body and its locals
+-- a call at its beginning: the type of its value, its body and its locals
 pub record Begins : Type 0 where
   pub ty : Option Scalar
   pub body : Stmts

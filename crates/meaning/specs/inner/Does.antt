@@ -1,4 +1,4 @@
--- What the program's own trees do, and the turns of its loops.
+-- The effects of the program's own trees, and the iterations of its loops.
 use Rattle.std.specs.Prelude.{ℕ, List, Option, Some, None, option_map, if◌then◌else◌}
 use Rattle.syntax.specs.declared.tree.Expr.{Expr as OwnExpr}
 use Rattle.syntax.specs.declared.tree.Stmt.{Stmt as OwnStmt}
@@ -32,12 +32,12 @@ abbrev pub if_of : Expr → Stmt → Option Stmt → Stmt
 if_of c a None = If c a
 if_of c a (Some b) = IfElse c a b
 
--- the end of the loop that a body's end is, or else what goes on
+-- the loop's end if the body ends it, or else the continuation
 abbrev pub left_or : Action (Option Completion) → Option OwnCompletion → Action (Option Completion)
 left_or go None s = go s
 left_or go (Some e) s = Gives (Some (completion_of e)) s
 
--- one turn of a loop
+-- one iteration of a loop
 abbrev pub while_turn : Program → Caller → Expr → Stmt → Action (Option Completion)
 while_turn p call c a =
     do v ← expr p call c; if is_zero v then pure (Some Next) else (in_scope (stmt p call a) >>= after_body (pure None))
@@ -54,7 +54,7 @@ for_turn p call c step a =
       more ← for_condition p call c
       if more then (in_scope (stmt p call a) >>= after_body (optional_step p call step)) else pure (Some Next)
 
--- what a `for` begins with, and then its turns
+-- the start of a `for`, and then its iterations
 abbrev pub for_all : Program → Caller → Start → Option Expr → Option Simple → Stmt → Action Completion
 for_all p call start c step a = start_with p call start >> loop (for_turn p call c step a)
 
@@ -63,14 +63,14 @@ abbrev pub is_forbidden : Mode → Mode → Bool
 is_forbidden Atomic Relaxed = true
 is_forbidden outer mode = false
 
--- one declared name: it is 0, and then its first value
+-- one declared name: it is 0, and then has its first value
 abbrev pub declared_one : Program → Caller → Scalar → Declarator → Action (Unit {0})
 declared_one p call t d = do
   mine ← locals
   put_locals (mine ++ record { name = d.name.text; ty = t; word = 0 } ∷ [])
   first_value p call (InLocal (length mine) t) d.first
 
--- values behind earlier ones
+-- values after earlier ones
 abbrev pub joined_to : List Value → List Value → Action (List Value)
 joined_to us vs = pure (us ++ vs)
 
@@ -78,7 +78,7 @@ abbrev pub else_depth : Option Stmt → ℕ
 else_depth None = 0
 else_depth (Some b) = stmt_depth b
 
--- how much may be done yet where so many further frames may come to live
+-- a bound on the remaining work, if at most so many more frames may be live
 unfoldable pub weight : Program → ℕ → ℕ
 weight p frames = frames * (8 * program_depth p + 16)
 
@@ -95,7 +95,7 @@ module _ {A : Type 0} where
   abbrev pub does_stmts : ProgramTables A → ℕ → List (OwnStmt A) → Action Completion
   does_stmts source frames ss = stmts (program_in source) (caller_in source frames) (stmts_of ss)
 
-  -- what a transaction does: its statements have names of their own, and an operand's value is its end
+  -- the effect of a transaction: its statements have names of their own, and an operand's value is its end
   abbrev pub does_body : ProgramTables A → ℕ → Body A → Action Completion
   does_body source frames (body.Block ss) = in_scope (does_stmts source frames ss.now)
   does_body source frames (body.Value e) = do v ← does_expr source frames e.now; pure (Returns v)

@@ -1,5 +1,5 @@
--- What a thread has still to do, wherever it stands, and the steps in which it goes on: the first step of a statement
--- that is made of others, of a call and of each turn of a loop, what is left behind it, and what all that is left does.
+-- A thread's continuation at any point, and the steps in which it continues: the first step of a compound statement, of
+-- a call and of each loop iteration, what is left after it, and the effect of all that is left.
 use Rattle.std.specs.Prelude.{◌≡◌, ℕ, zero, suc, List, [], ◌∷◌, take, length, Option, Some, None, Bool, true, false}
 use Rattle.std.specs.Prelude.{if◌then◌else◌}
 use Rattle.syntax.specs.declared.thread_end.Halt.TheVariants.{Spent}
@@ -16,7 +16,7 @@ use Rattle.meaning.specs.Frames.{IsFramed}
 use Rattle.meaning.specs.inner.Calls.{Begins, begin_call}
 use Rattle.meaning.specs.inner.Does.{do_turn, for_turn, loop_condition, while_turn}
 
--- how a thread goes on after a step: with this end, with this run, or with a run and then, by its end, with another
+-- how a thread continues after a step: with this end, with this run, or with a run and then, by its end, with another
 pub data Follow : Type 0 where
   Ends : (end : Completion) → Follow
   Goes : (run : Action Completion) → Follow
@@ -27,32 +27,32 @@ follows (Ends end) = pure end
 follows (Goes run) = run
 follows (Nests outer inner) = inner >>= outer
 
--- the ticks that are left
+-- the remaining ticks
 abbrev pub ticks_left : Action ℕ
 ticks_left s = Gives s.ticks s
 
--- the names behind so many are gone
+-- only the first n names remain
 abbrev pub drop_names : ℕ → Completion → Action Completion
 drop_names n end = do all ← locals; put_locals (take n all); pure end
 
--- a function is left: its caller's names are back, and its value counts no more
+-- a function is left: its caller's names are back, and its value is discarded
 abbrev pub call_left : Option Scalar → List Names.Local → Completion → Action Completion
 call_left ty outer end = do put_locals outer; result_of ty end; pure Next
 
--- a step where the end before leads on to what is next, or elsewhere
+-- a step that runs if the statement before completed normally
 abbrev pub when_next : Action Follow → Completion → Action Follow
 when_next run Next = run
 when_next run end = pure (Ends end)
 
--- names of a run's own stand behind those that there are
+-- a run's own names come after the existing ones
 abbrev pub scope_begun : Action Completion → Action Follow
 scope_begun run = do outer ← locals; pure (Nests (drop_names (length outer)) run)
 
--- as many turns as there are ticks
+-- as many iterations as there are ticks
 abbrev pub loop_begun : Action (Option Completion) → Action Follow
 loop_begun turn = do n ← ticks_left; pure (Goes (turns n turn))
 
--- what comes behind the body of a turn, by its end: where the loop goes on this, and then the turns that are left
+-- what follows the body of an iteration, by its completion: if the loop continues, this and the remaining iterations
 abbrev pub body_left : Action (Option Completion) → Action Completion → Completion → Action Completion
 body_left behind rest end = after_body behind end >>= after_turn rest
 
@@ -61,8 +61,8 @@ follow_turn rest None = Goes rest
 follow_turn rest (Some end) = Ends end
 
 module _ (p : Program) (call : Caller) where
-  -- one turn of a statement that is a loop: what it tests before its body, the body, and what follows where the loop
-  -- goes on
+  -- one iteration of a statement that is a loop: its test before the body, the body, and what follows if the loop
+  -- continues
   abbrev pub turn_of : Stmt → Action (Option Completion)
   turn_of (While c a) = while_turn p call c a
   turn_of (DoWhile a c) = do_turn p call a c
@@ -86,7 +86,7 @@ module _ (p : Program) (call : Caller) where
   turn_end_of (For start c step a) = optional_step p call step
   turn_end_of s = pure None
 
-  -- a turn behind its tick: where the test holds comes the body, behind which so many turns are left
+  -- an iteration after its tick: if the test holds, the body comes, and then n more iterations
   abbrev pub turn_begun : Stmt → ℕ → Action Follow
   turn_begun s n = do
     goes ← test_of s
@@ -96,7 +96,7 @@ module _ (p : Program) (call : Caller) where
   turns_begun s zero = stop Spent
   turns_begun s (suc n) = tick >> turn_begun s n
 
-  -- the first of statements, and then the others
+  -- the first of several statements, and then the others
   abbrev pub apart_begun : Stmts → Follow
   apart_begun Stmts.[] = Ends Next
   apart_begun (Stmts.◌∷◌ s ss) = Nests (on_next (stmts p call ss)) (stmt p call s)
@@ -116,35 +116,35 @@ module _ (p : Program) (call : Caller) where
     n ← ticks_left
     pure (Nests (drop_names (length outer)) (turns n turn))
 
--- what a call does, and a statement that is nothing but a call
+-- the effect of a call, and of a statement that is only a call
 abbrev pub call_of : Program → Caller → List ℕ → Exprs → Action Value
 call_of p call x es = do vs ← exprs p call es; tick; call x vs
 
 abbrev pub call_alone : Program → Caller → List ℕ → Exprs → Action Completion
 call_alone p call x es = do tick; call_of p call x es; pure Next
 
--- a body with its own names, behind which the caller's come back
+-- a body with its own names; the caller's are restored after it
 abbrev pub frame_at : Program → ℕ → Begins → Action Follow
 frame_at p k b = do
   outer ← locals
   put_locals b.mine
   pure (Nests (call_left b.ty outer) (stmts p (calls p k) b.body))
 
--- a function is entered, where so many frames may come to live
+-- a function is entered, if at most so many more frames may be live
 abbrev pub frame_begun : Program → ℕ → List ℕ → List Value → Action Follow
 frame_begun p zero x vs = trap Frames
 frame_begun p (suc k) x vs = begin_call p x vs >>= frame_at p k
 
--- the first step of a statement that is nothing but a call: its arguments, the call's tick, and then the function
+-- the first step of a statement that is only a call: its arguments, the call's tick, and then the function
 abbrev pub call_begun : Program → ℕ → List ℕ → Exprs → Action Follow
 call_begun p k x es = do tick; vs ← exprs p (calls p k) es; tick; frame_begun p k x vs
 
--- what is left, the innermost piece at the list's end: each goes on by the end that the ones behind it come to
+-- what is left, the innermost piece last: each continues from the completion of the pieces after it
 abbrev pub gone_on : List (Completion → Action Completion) → Completion → Action Completion
 gone_on [] = pure
 gone_on (piece ∷ pieces) = λ end. gone_on pieces end >>= piece
 
--- a step of a piece: it does what the piece does next, whatever stands round it
+-- a step of a piece: it does what the piece does next, whatever its surroundings
 pub record IsStep (piece : Completion → Action Completion) (end : Completion) (run : Action Follow) : Type 0 where
   pub does : (s : State) → piece end s ≡ go_on (run s) follows
   pub framed : IsFramed run

@@ -1,4 +1,4 @@
--- What a thread has still to do, as code has it.
+-- A thread's continuation, as the code represents it.
 use Rattle.std.specs.Prelude.{ℕ, List, map, Option, option_map, Result}
 use Rattle.syntax.specs.declared.tree.Stmt.{Stmt as OwnStmt}
 use Rattle.syntax.specs.Tree.{Stmt, Block, While, DoWhile, For}
@@ -49,7 +49,7 @@ module _ {A : Type 0} where
   stmt_in (parts.Repeats w) = loop_in w
 
 module _ {A : Type 0} (source : ProgramTables A) where
-  -- what a statement does in a way, and its first step
+  -- the effect of a statement in a direction, and its first step
   abbrev pub does_by : Direction → ℕ → Stmt → Action Completion
   does_by way.Whole frames s = stmt (program_in source) (caller_in source frames) s
   does_by way.Scoped frames s = in_scope (stmt (program_in source) (caller_in source frames) s)
@@ -60,7 +60,7 @@ module _ {A : Type 0} (source : ProgramTables A) where
   begun_by way.Scoped frames s = scope_begun (stmt (program_in source) (caller_in source frames) s)
   begun_by (way.Turns n) frames s = turns_begun (program_in source) (caller_in source frames) s n
 
-  -- what a task does, and its first step
+  -- the effect of a task, and its first step
   abbrev pub does_task : Pending A → Action Completion
   does_task (task.Apart frames ss) = does_stmts source frames ss.now
   does_task (task.Alone w frames s) = does_by w frames (stmt_of s.now)
@@ -70,7 +70,7 @@ module _ {A : Type 0} (source : ProgramTables A) where
       pure (apart_begun (program_in source) (caller_in source frames) (stmts_of ss.now))
   first_step_of (task.Alone w frames s) = begun_by w frames (stmt_of s.now)
 
-  -- the first step of a statement by its parts, behind its tick; of a loop by its turn
+  -- the first step of a statement by its parts, after its tick; of a loop by its iteration
   abbrev pub loop_opened : ℕ → Action (Option Completion) → Loop A → Action Follow
   loop_opened frames turn (kind.While c a) = loop_begun turn
   loop_opened frames turn (kind.DoWhile a c) = loop_begun turn
@@ -88,21 +88,21 @@ module _ {A : Type 0} (source : ProgramTables A) where
   abbrev pub first_step : ℕ → Stmt → StmtParts A → Action Follow
   first_step frames s q = tick >> step_by_parts frames s q
 
-  -- so many turns of a loop, and what is left behind the body of one
+  -- n iterations of a loop, and what is left after the body of one
   abbrev pub turns_in : ℕ → Stmt → ℕ → Action Completion
   turns_in frames s n = turns n (turn_of (program_in source) (caller_in source frames) s)
 
   abbrev pub body_rest : ℕ → Stmt → ℕ → Completion → Action Completion
   body_rest frames s n = body_left (turn_end_of (program_in source) (caller_in source frames) s) (turns_in frames s n)
 
-  -- what is done behind something, by its end
+  -- what is done after something, by its completion
   abbrev pub continue_with : Left A → Completion → Action Completion
   continue_with (left.Next t) = on_next (does_task t)
   continue_with (left.Body frames s n) = body_rest frames (stmt_of s.now) n
   continue_with (left.Scope n) = drop_names n
   continue_with (left.Call ty outer) = call_left ty (items_in outer)
 
-  -- what is left, the innermost piece at the list's end
+  -- what is left, the innermost piece last
   abbrev pub left_gone_on : List (Left A) → Completion → Action Completion
   left_gone_on ls = gone_on (map continue_with ls)
 
@@ -119,7 +119,7 @@ module _ {A : Type 0} (source : ProgramTables A) where
       after_body (turn_end_of (program_in source) (caller_in source frames) s) end
       >>= (λ next. pure (follow_turn (turns_in frames s n) next))
 
-  -- one step, by the end of what was done before
+  -- one step, by the completion of what was done before
   abbrev pub step_of : Left A → Completion → Action Follow
   step_of (left.Next t) = when_next (first_step_of t)
   step_of (left.Body frames s n) = body_step frames (stmt_of s.now) n

@@ -1,4 +1,4 @@
--- The state that a thread holds, and what its answers say.
+-- The state of a thread, and the meaning of its answers.
 use Rattle.std.specs.Prelude.{Vec, ◌≡◌, List, [], ◌∷◌, ◌++◌, map, Result, Ok, Err, Option, Some, None, option_map}
 use Rattle.syntax.specs.declared.thread_end.Halt.{Halt}
 use Rattle.syntax.specs.declared.thread_end.Halt.TheVariants.{Astray}
@@ -38,7 +38,7 @@ lvalue_of (lvalue.InCell c t) = Meaning.InCell c t
 abbrev pub local_in : Local → Names.Local
 local_in l = record { name = l.name.now; ty = l.ty; word = l.word }
 
--- where one memory more is among those left
+-- with one more memory among those left
 abbrev pub with_left : Memory → Actions.Context → Actions.Context
 with_left memory (Actions.Outside founds lefts) = Actions.Outside founds (lefts ++ memory ∷ [])
 with_left memory (Actions.Inside mode now) = Actions.Inside mode now
@@ -46,7 +46,7 @@ with_left memory (Actions.Inside mode now) = Actions.Inside mode now
 abbrev pub left_too : Memory → State → State
 left_too memory s = record s { context = with_left memory s.context }
 
--- memory has not run out: a reason is known
+-- no allocation failed: a reason is known
 abbrev pub Happened : Option Halt → Type 0
 Happened (Some why) = Unit {0}
 Happened None = ⊥
@@ -75,12 +75,12 @@ module _ {A : Type 0} where
   IsDone (Ok x) m = Unit {0}
   IsDone (Err h) m = Happened m.why
 
-  -- an answer, with what it gives seen by f
+  -- an answer, with its result seen by f
   abbrev pub given_as : {X Y : Type 0} → (X → Y) → Result X Halted → SourceThread A → Answer Y
   given_as f (Ok x) m = Gives (f x) (state_in m)
   given_as f (Err h) m = Stops (halt_of m.why) (state_in m)
 
-  -- what was done is this, but where memory ran out
+  -- this was done, unless memory ran out
   abbrev pub MeansAs : {X Y : Type 0} → (X → Y) → Result X Halted → Answer Y → SourceThread A → Type 0
   MeansAs f result does m = IsDone result m → does ≡ given_as f result m
 

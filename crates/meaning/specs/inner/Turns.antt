@@ -12,12 +12,12 @@ use Rattle.meaning.specs.inner.Standing.{rest}
 use Rattle.meaning.specs.declared.orders.Standing.{Standing}
 use Rattle.meaning.specs.declared.orders.OrderProgress.{OrderProgress}
 
--- what a program's threads do; only the prover needs it to be a word of its own
+-- the behaviour of a program's threads; a name of its own helps only the prover
 unfoldable pub does_in : Program → Behaviour
 does_in p = thread p
 
--- a turn of a thread, from the memory at hand and those that it has found: where it wants one it finds the one at hand,
--- and what it leaves on that takes its place
+-- a turn of a thread, from the current memory and those that it has found: if it needs one, it finds the current one,
+-- and the memory that it leaves next becomes the current one
 unfoldable pub TakesTurn : Program → (ticks t : ℕ) → Memory → List Memory → Memory → List Memory → Type 0
 TakesTurn p ticks t m founds n further =
     let does = does_in p t in
@@ -27,7 +27,7 @@ TakesTurn p ticks t m founds n further =
     × (further ≡ founds ++ m ∷ []))
 
 module _ {A : Type 0} where
-  -- what is seen of a thread, as the turns have it
+  -- the observables of a thread, as the turns record them
   abbrev pub seen_in : Standing A → Outcome
   seen_in s = record {
     lefts = memories_in s.thread.shown.lefts.items ++ memories_in s.further.lefts.items;
@@ -35,14 +35,14 @@ module _ {A : Type 0} where
     end = thread_end_in s.end;
   }
 
-  -- A thread that has found memories: it goes on from where it stands as it would from its beginning, whatever it finds
-  -- further; and what is seen of it is what it does with those that it has found.
+  -- A thread that has found memories: it continues as it would from its beginning, whatever it finds later; and its
+  -- observables are those of a run with the memories that it has found.
   pub record IsKnown (source : ProgramTables A) (ticks t : ℕ) (s : Standing A) : Type 0 where
     pub stands : (further : List Memory) → rest source s.thread further
         ≡ worker_run (program_in source) t (first_state (memories_in s.founds.items ++ further) ticks)
     pub seen : seen_in s ≡ does_in (program_in source) t (memories_in s.founds.items) ticks
 
-  -- each thread from this one on goes on as it would from its beginning, and what is seen of it is what it does
+  -- each thread from this one on continues as it would from its beginning, and its observables are those of that run
   unfoldable pub AreKnown : ProgramTables A → (ticks t : ℕ) → List (Standing A) → Type 0
   AreKnown source ticks t [] = Unit {0}
   AreKnown source ticks t (s ∷ threads) = IsKnown source ticks t s × AreKnown source ticks (t + 1) threads
@@ -50,6 +50,6 @@ module _ {A : Type 0} where
   abbrev pub founds_in : List (Standing A) → List (List Memory)
   founds_in threads = map (λ s. memories_in s.founds.items) threads
 
-  -- the memory at hand, and the memories that each thread has found
+  -- the current memory, and the memories that each thread has found
   abbrev pub progress : OrderProgress A → Progress
   progress way = record { memory = way.memory.items; founds = founds_in way.threads.items }

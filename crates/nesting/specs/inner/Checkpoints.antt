@@ -1,4 +1,4 @@
--- How the inner begins lie in two lists: what each saved and what the write log was there, the outermost first.
+-- The inner begins in two lists: the saved state of each and the write log at that time, the outermost first.
 use Rattle.std.specs.Prelude.{ℕ, List, [], ◌∷◌}
 use Rattle.nesting.specs.Begins.{Saved, Checkpoint}
 

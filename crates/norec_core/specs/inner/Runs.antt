@@ -1,4 +1,4 @@
--- The attempt of a core as the code of its steps sees it, and what that code keeps true.
+-- The attempt of a core as the code of its steps has it, and the invariant of that code.
 use Rattle.std.specs.Prelude.{◌≡◌, ◌+◌, ◌^◌, ◌%◌, ◌<◌, ◌≤◌, ℕ, Bool, true, false, Option, None, Some, IfSome}
 use Rattle.std.specs.Prelude.{if◌then◌else◌}
 use Rattle.write_log.specs.Overlay.{overlay_word}
@@ -17,8 +17,7 @@ use Rattle.norec_core.specs.Accesses.{stops}
 use Rattle.norec_core.specs.Cores.{MayLog}
 use Rattle.norec_core.specs.Phases.{CoreStep, core_access, core_step, core_swap}
 
--- an attempt, whether it is under way, what was set aside, and for how many inner begins, reads and writes there is
--- room
+-- an attempt, whether it is current, the state set aside, and the spare capacity for inner begins, reads and writes
 pub record Run : Type 0 where
   pub begun : Bool
   pub attempt : Attempt Saved
@@ -40,17 +39,17 @@ attempt_by n first snapshot phase = record {
   phase = phase;
 }
 
--- the attempt under way
+-- the current attempt
 abbrev pub attempt_of : Run → Option (Attempt Saved)
 attempt_of r = if r.begun then Some r.attempt else None
 
--- the outcome and the attempt are what a step leaves, and what it goes back to, if it does, is set aside
+-- the outcome and the attempt are those of a step, and the state to return to, if any, is set aside
 pub record IsStep (n : CoreStep Saved) (result : OpOutcome) (new : Run) : Type 0 where
   pub attempt : attempt_of new ≡ n.attempt
   pub outcome : result ≡ n.outcome
   pub back : IfSome n.back (λ s. new.aside ≡ s)
 
--- all but the room is as it was, and no room has gone
+-- all but the capacity is unchanged, and no capacity is lost
 pub record GainsRoom (old new : Run) : Type 0 where
   pub begun : new.begun ≡ old.begun
   pub attempt : new.attempt ≡ old.attempt
@@ -59,24 +58,24 @@ pub record GainsRoom (old new : Run) : Type 0 where
   pub read_room : old.read_room ≤ new.read_room
   pub write_room : old.write_room ≤ new.write_room
 
--- there is room for what a step of this operation may add
+-- there is capacity for whatever a step of this operation may add
 abbrev pub HasRoom : Op → Run → Type 0
 HasRoom op.Begin r = 0 < r.begin_room
 HasRoom (op.Read cell) r = MayLog r.attempt.phase → 0 < r.read_room
 HasRoom (op.Write cell word) r = MayLog r.attempt.phase → 0 < r.write_room
 HasRoom _ r = Unit {0}
 
--- what was prepared, where its step is still to be told
+-- the prepared operation, if its step has not received its response yet
 abbrev pub asked_of : Bool → Op → Option Op
 asked_of false op = None
 asked_of true op = Some op
 
--- a step was prepared: it has its room, and does not stop
+-- a step was prepared: it has its capacity, and does not stop
 abbrev pub IsReadyFor : Option Op → Run → Type 0
 IsReadyFor None r = Unit {0}
 IsReadyFor (Some op) r = HasRoom op r × (stops (core_access (attempt_of r) op) ≡ false)
 
--- the attempt stands at an operation, and has written this word to the cell
+-- the attempt is at an operation, and has written this word to the cell
 pub record IsWritten (a : Attempt Saved) (cell word : ℕ) : Type 0 where
   pub phase : a.phase ≡ AtOperation
   pub has : overlay_word cell a.writes ≡ Some word
@@ -96,11 +95,11 @@ abbrev pub CanReleaseKept : Bool → ℕ → Type 0
 CanReleaseKept true snapshot = CanRelease snapshot
 CanReleaseKept false snapshot = Unit {0}
 
--- an attempt stands at an operation without the lock
+-- an attempt is at an operation, without the lock
 abbrev pub IsPlain : (begun kept : Bool) → Phase → Type 0
 IsPlain begun kept phase = (begun ≡ true) × (kept ≡ false) × (phase ≡ AtOperation)
 
--- by phase: what has the lock can release it; what validates does not have it, and validates at an even lock
+-- by phase: a holder of the lock can release it; validation runs without the lock, and at an even lock value
 abbrev pub IsStanding : Phase → Bool → ℕ → Type 0
 IsStanding AtOperation kept snapshot = CanReleaseKept kept snapshot
 IsStanding (ReadsLock word) kept snapshot = kept ≡ false

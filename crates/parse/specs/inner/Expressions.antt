@@ -1,4 +1,4 @@
--- What the parser's functions over expressions answer, as functions on lists.
+-- The results of the parser's functions on expressions, as functions on lists.
 use Rattle.std.specs.Prelude.{ℕ, zero, suc, Bool, true, false, List, [], Option, Some, None, Err, if◌then◌else◌, nat_le}
 use Rattle.std.specs.Prelude.{is_some}
 use Rattle.lex.specs.declared.token.Fixed.{Fixed}
@@ -35,7 +35,7 @@ use Rattle.parse.specs.inner.Reading.{climb_loop, across}
 
 -- ---- types
 
--- a word that a type begins with
+-- a word that begins a type
 abbrev pub type_of_fixed : Fixed → Option TypeWord
 type_of_fixed (Keyword key.Int) = Some word.Int
 type_of_fixed (Keyword key.Signed) = Some word.Signed
@@ -46,7 +46,7 @@ type_of_fixed _ = None
 abbrev pub the_type_word : Tok → Option TypeWord
 the_type_word t = by_fixed type_of_fixed t.terminal
 
--- the first token says something of this kind
+-- the first token is of this kind
 abbrev pub says : {A : Type 0} → (Tok → Option A) → Option Tok → Bool
 says f None = false
 says f (Some t) = is_some (f t)
@@ -54,15 +54,15 @@ says f (Some t) = is_some (f t)
 abbrev pub starts_type : Option Tok → Bool
 starts_type = says the_type_word
 
--- a type, behind which `int` may stand
+-- a type that `int` may follow
 abbrev pub longer : Scalar → Parser Scalar
 longer ty = map_parser (λ x. ty) (perhaps (Keyword key.Int) (expect (Keyword key.Int)))
 
--- a type, behind its first `long`
+-- a type, after its first `long`
 abbrev pub long_long : Parser Scalar
 long_long = behind (Keyword key.Long) (longer LongLong)
 
--- a type, behind its first word
+-- a type, after its first word
 abbrev pub type_from : TypeWord → Parser Scalar
 type_from word.Int = give Int
 type_from word.Signed = either (is_next (Keyword key.Long)) (behind (Keyword key.Long) long_long) (longer Int)
@@ -118,7 +118,7 @@ module _ (whole tight : Parser Expr) where
   abbrev pub prefix_expr : Parser Expr
   prefix_expr = map_parser (λ x. Unary x.0.0 x.1 (across x.0.1 (span_of x.1))) (seq (take the_prefix) tight)
 
-  -- a cast, behind its `(`, which has a span
+  -- a cast, after its `(`, which has a span
   abbrev pub cast_from : Span → Parser Expr
   cast_from at =
       map_parser (λ x. Cast x.0 x.1 (across at (span_of x.1))) (seq (before (Punctuator punct.CloseParen) scalar) tight)
@@ -141,7 +141,7 @@ module _ (whole tight : Parser Expr) where
   abbrev pub arguments : Parser (List Expr)
   arguments = either (is_next (Punctuator punct.CloseParen)) (give []) (comma_list whole)
 
-  -- an element of an array, behind the name
+  -- an element of an array, after the name
   abbrev pub element_from : Name → Parser Expr
   element_from x =
       map_parser (λ y. Element x y.0 (across x.span y.1))
@@ -207,15 +207,15 @@ starts_expr h = is_operand (operand_at h)
 abbrev pub chain : (ℕ → Parser Expr) → ℕ → ℕ → Parser Expr
 chain below d min ts = operand (below 0) (below 11) ts >>= λ x. climb_loop operators below min (suc d) (suc d) x.0 x.1
 
--- what a condition chooses from
+-- the branches of a conditional expression
 abbrev pub outcomes : Parser Expr → Parser (Expr × Expr)
 outcomes whole = behind (Punctuator punct.Question) (seq whole (behind (Punctuator punct.Colon) whole))
 
--- a choice by the condition c, behind that
+-- a conditional expression, after its condition c
 abbrev pub conditional_from : Parser Expr → Expr → Parser Expr
 conditional_from whole c = map_parser (λ x. Conditional c x.0 x.1 (across (span_of c) (span_of x.1))) (outcomes whole)
 
--- what is read within this depth
+-- what is parsed within this depth
 abbrev pub within : {A : Type 0} → ℕ → Expr → Parser A → Parser A
 within d e P ts = if nat_le (expr_depth e) d then P ts else Err (deep ts)
 

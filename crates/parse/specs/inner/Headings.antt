@@ -1,4 +1,4 @@
--- What an item begins with, and what an if chooses from, as the functions on lists see it.
+-- The first tokens of an item, and the branches of an if, as the functions on lists see them.
 use Rattle.std.specs.Prelude.{Option, option_map}
 use Rattle.syntax.specs.Tree.{Stmt}
 use Rattle.syntax.specs.Views.{name_of, stmt_of}

@@ -1,4 +1,4 @@
--- What the parser's functions over functions and globals answer, as functions on lists.
+-- The results of the parser's functions on functions and globals, as functions on lists.
 use Rattle.std.specs.Prelude.{ℕ, Bool, true, false, List, [], ◌∷◌, ◌++◌, length, Option, Some, None, Result}
 use Rattle.std.specs.Prelude.{if◌then◌else◌, is_some}
 use Rattle.lex.specs.declared.token.Fixed.TheVariants.{Keyword, Punctuator}
@@ -77,7 +77,7 @@ abbrev pub are_named : List Parameter → Bool
 are_named [] = true
 are_named (q ∷ qs) = if is_some q.name then are_named qs else false
 
--- a function's body, if its parameters allow one, or a prototype's end
+-- a function's body, if its parameters allow one, or the end of a prototype
 abbrev pub defined_at : ℕ → Bool → Parser (Option Stmts)
 defined_at d true = map_parser (λ ss. Some (stmts_from ss)) (block_at d)
 defined_at d false = none
@@ -87,7 +87,7 @@ body_at d qs =
     either (is_next (Punctuator punct.OpenBrace)) (defined_at d (are_named qs))
     (map_parser (λ x. None) (expect (Punctuator punct.Semicolon)))
 
--- what stands before a function's parameters or behind the first global's name
+-- what precedes a function's parameters or follows the first global's name
 abbrev pub Header : Type 0
 Header = List Attribute × (Option Scalar × Name)
 
@@ -157,7 +157,7 @@ array_tree x = (Some x.0, x.1)
 abbrev pub variable_tree : List Initialiser → Size
 variable_tree is = (None, is)
 
--- what stands behind a global's name
+-- what follows a global's name
 abbrev pub global_tail : Parser Size
 global_tail =
     either (is_next (Punctuator punct.OpenBracket))
@@ -172,7 +172,7 @@ global_tree t x size = record { ty = t; name = x; length = size.0; first = size.
 abbrev pub global : Scalar → Parser Global
 global t = map_parser (λ x. global_tree t x.0 x.1) (seq (take the_name) global_tail)
 
--- the globals of one declaration, behind the first one's name
+-- the globals of one declaration, after the first one's name
 abbrev pub several : Scalar → Name → Parser (List Global)
 several t x =
     map_parser (λ y. global_tree t x y.0 ∷ y.1)

@@ -1,4 +1,4 @@
--- What each function of the parser answers, as functions on lists.
+-- The results of the parser's functions, as functions on lists.
 use Rattle.std.specs.Prelude.{◌≡◌, ℕ, zero, suc, Bool, true, false, not, List, [], ◌∷◌, length, Option, Some, None}
 use Rattle.std.specs.Prelude.{Result, Ok, Err, if◌then◌else◌, nat_lt, nat_le, IfOk}
 use Rattle.std.specs.Borrow.{Bor}
@@ -12,7 +12,7 @@ use Rattle.syntax.specs.Phrases.{is_fixed, the_fixed, fixed_span}
 use Rattle.parse.specs.declared.fault.ParseFailure.{ParseFailure}
 use Rattle.parse.specs.declared.fault.ParseFailure.TheVariants.{Memory, Wrong, Deep}
 
--- why nothing is read, with the tokens from there on
+-- why nothing is parsed, with the tokens from there on
 pub data Fault : Type 0 where
   wrong : List Tok → Fault
   deep : List Tok → Fault
@@ -22,7 +22,7 @@ abbrev pub ◌>>=◌ : {A B : Type 0} → Result A Fault → (A → Result B Fau
 (Ok x) >>= f = f x
 (Err e) >>= f = Err e
 
--- What a function returned, seen by view, is what reading gives, unless memory ran out.
+-- The result of a function, seen by view, is that of parsing, unless memory ran out.
 abbrev pub Fails : {Y : Type 0} → ParseFailure → Result Y Fault → Type 0
 Fails Memory read = Unit {0}
 Fails (Wrong r) read = read ≡ Err (wrong (toks r.now))
@@ -32,14 +32,14 @@ abbrev pub Gives : {X Y : Type 0} → (X → Y) → Result X ParseFailure → Re
 Gives view (Ok x) read = read ≡ Ok (view x)
 Gives view (Err e) read = Fails e read
 
--- Whatever reading the one gives, seen by view, the other gives as make makes of it, unless memory ran out.
+-- If one parse returns a value, seen by view, the other returns it mapped by make, unless memory ran out.
 abbrev pub GivesOn : {X Y U V : Type 0} → (X → U) → (Y → V) → (U → V) → Result (X × Bor (List Token)) ParseFailure →
     Result (Y × Bor (List Token)) ParseFailure → Type 0
 GivesOn {U = U} {V = V} view seen make one other =
     (read : Result (U × List Tok) Fault) → Gives {Y = U × List Tok} (λ x. (view x.0, toks x.1.now)) one read →
     Gives {Y = V × List Tok} (λ y. (seen y.0, toks y.1.now)) other (read >>= λ x. Ok (make x.0, x.1))
 
--- reads something at the front, and answers it with the tokens after it
+-- parses something at the front, and returns it with the tokens after it
 abbrev pub Parser : Type 0 → Type 0
 Parser A = List Tok → Result (A × List Tok) Fault
 
@@ -62,28 +62,28 @@ bind P Q ts = P ts >>= λ x. Q x.0 x.1 >>= λ y. Ok ((x.0, y.0), y.1)
 abbrev pub seq : {A B : Type 0} → Parser A → Parser B → Parser (A × B)
 seq P Q = bind P (λ x. Q)
 
--- what is read, as another value
+-- what is parsed, as another value
 abbrev pub map_parser : {A B : Type 0} → (A → B) → Parser A → Parser B
 map_parser f P ts = P ts >>= λ x. Ok (f x.0, x.1)
 
--- what is read as the first token says
+-- parses by the first token
 abbrev pub choice : {A : Type 0} → (Option Tok → Parser A) → Parser A
 choice c ts = c (head ts) ts
 
--- one thing or another, as a test of the first token says
+-- one thing or another, by a test of the first token
 abbrev pub either : {A : Type 0} → (Option Tok → Bool) → Parser A → Parser A → Parser A
 either test P Q ts = if test (head ts) then P ts else Q ts
 
--- too deep, where something begins
+-- too deep, if something begins here
 abbrev pub too_deep_at : {A : Type 0} → (Option Tok → Bool) → Parser A
 too_deep_at starts ts = if starts (head ts) then Err (deep ts) else Err (wrong ts)
 
--- too deep, where no depth is left
+-- too deep, if no depth is left
 abbrev pub unless_too_deep : {A : Type 0} → ℕ → Parser A → Parser A
 unless_too_deep zero P ts = Err (deep ts)
 unless_too_deep (suc d) P ts = P ts
 
--- at most n things, up to a token that stops
+-- at most n things, up to a token that stops them
 abbrev pub many : {A : Type 0} → (Option Tok → Bool) → ℕ → Parser A → Parser (List A)
 many stop zero P ts = if stop (head ts) then Ok ([], ts) else Err (wrong ts)
 many stop (suc n) P ts =
@@ -104,7 +104,7 @@ take f (t ∷ ts) = take_value (f t) t ts
 abbrev pub expect : Fixed → Parser (Unit {0})
 expect m = take (the_fixed m)
 
--- What was read, where a fixed token stands behind it: the other gives it with the tokens behind that token.
+-- If a fixed token follows what was parsed, the other returns it with the tokens after that token.
 abbrev pub GivesBefore : {X : Type 0} → Fixed → Result (X × Bor (List Token)) ParseFailure →
     Result (X × Bor (List Token)) ParseFailure → Type 0
 GivesBefore k (Ok x) other =
@@ -124,7 +124,7 @@ is_next m (Some t) = is_fixed m t.terminal
 abbrev pub is_other : Fixed → Option Tok → Bool
 is_other m h = not (is_next m h)
 
--- what was found behind a fixed token, if that is next
+-- what was found after a fixed token, if that is next
 abbrev pub GivesBehind : Fixed → List Tok → Option (Bor (List Token)) → Type 0
 GivesBehind k ts None = is_next k (head ts) ≡ false
 GivesBehind k ts (Some rest) = (is_next k (head ts) ≡ true) × (expect k ts ≡ Ok (tt, toks rest.now))
@@ -137,15 +137,15 @@ if_there false P = give None
 abbrev pub perhaps : {A : Type 0} → Fixed → Parser A → Parser (Option A)
 perhaps k P = choice (λ h. if_there (is_next k h) P)
 
--- what stands behind a fixed token
+-- what follows a fixed token
 abbrev pub behind : {A : Type 0} → Fixed → Parser A → Parser A
 behind k P = map_parser (λ x. x.1) (seq (expect k) P)
 
--- what stands up to a fixed token
+-- what precedes a fixed token
 abbrev pub before : {A : Type 0} → Fixed → Parser A → Parser A
 before k P = map_parser (λ x. x.0) (seq P (expect k))
 
--- nothing, where the next token is this fixed token
+-- nothing, if the next token is this fixed token
 abbrev pub unless : {A : Type 0} → Fixed → Parser A → Parser (Option A)
 unless k P = either (is_next k) (give None) (map_parser Some P)
 
@@ -157,7 +157,7 @@ abbrev pub comma_list : {A : Type 0} → Parser A → Parser (List A)
 comma_list P =
     map_parser in_front (seq P (many_until (is_other (Punctuator punct.Comma)) (behind (Punctuator punct.Comma) P)))
 
--- further things, each behind a comma, and perhaps a comma behind the last, up to a brace; at most n
+-- further things, each after a comma, and perhaps a comma after the last, up to a brace; at most n
 abbrev pub trailing : {A : Type 0} → ℕ → Parser A → Parser (List A)
 trailing zero P ts = if is_next (Punctuator punct.Comma) (head ts) then Err (wrong ts) else Ok ([], ts)
 trailing (suc n) P ts =
@@ -190,7 +190,7 @@ module _ {E Op : Type 0} (ops : Operators E Op) where
   next_op min [] = None
   next_op min (t ∷ ts) = after_op ts (at_least min (ops.the t))
 
-  -- the operator of a token, where it binds so tightly
+  -- the operator of a token, if it binds so tightly
   abbrev pub op_at : ℕ → Option Tok → Option Op
   op_at min None = None
   op_at min (Some t) = at_least min (ops.the t)

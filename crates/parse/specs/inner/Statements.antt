@@ -1,4 +1,4 @@
--- What the parser's functions over statements answer, as functions on lists.
+-- The results of the parser's functions on statements, as functions on lists.
 use Rattle.std.specs.Prelude.{◌≡◌, ℕ, zero, suc, Bool, true, false, List, ◌∷◌, Option, Some, None, Ok, if◌then◌else◌}
 use Rattle.std.specs.Borrow.{Bor}
 use Rattle.lex.specs.declared.token.Fixed.{Fixed}
@@ -27,7 +27,7 @@ use Rattle.parse.specs.inner.Reading.{perhaps}
 use Rattle.parse.specs.inner.Reading.{behind, before}
 use Rattle.parse.specs.inner.Expressions.{says, starts_type, scalar, starts_expr, whole_at}
 
--- what a function found at the front: a token that says something of this kind, and the tokens after it, or none
+-- what a function found at the front: a token of this kind, and the tokens after it, or none
 abbrev pub GivesToken : {A : Type 0} → (Tok → Option A) → List Tok → Option (A × Bor (List Token)) → Type 0
 GivesToken f ts None = says f (head ts) ≡ false
 GivesToken f ts (Some x) = (says f (head ts) ≡ true) × (take f ts ≡ Ok (x.0, toks (x.1).now))
@@ -39,7 +39,7 @@ module _ (whole : Parser Expr) where
   abbrev pub prefix_step : Parser Simple
   prefix_step = map_parser (λ x. Adjust x.1 x.0) (seq (take the_step) whole)
 
-  -- an assignment, behind its left side
+  -- an assignment, after its left side
   abbrev pub assigned_from : Expr → Parser Simple
   assigned_from to = map_parser (λ x. Assign to x.0 x.1) (seq (take the_assigning) whole)
 
@@ -56,7 +56,7 @@ module _ (whole : Parser Expr) where
 abbrev pub starts_simple : Option Tok → Bool
 starts_simple h = if says the_step h then true else starts_expr h
 
--- what stands with a semicolon behind it, within this depth
+-- what a semicolon follows, within this depth
 abbrev pub simple_at : ℕ → Parser Simple
 simple_at zero = too_deep_at starts_simple
 simple_at (suc d) = simple (whole_at d)
@@ -82,7 +82,7 @@ abbrev pub declaration_at : ℕ → Parser Declaration
 declaration_at zero = too_deep_at starts_type
 declaration_at (suc d) = declaration (whole_at d)
 
--- ---- what statements begin with
+-- ---- the first tokens of statements
 
 abbrev pub lead_fixed : Fixed → Lead
 lead_fixed (Punctuator punct.Semicolon) = lead.Empty
@@ -119,7 +119,7 @@ is_lead _ h = true
 abbrev pub starts_stmt : Option Tok → Bool
 starts_stmt h = is_lead (lead_at h) h
 
--- ---- the attribute `outer` of a transaction, and of what cancels it
+-- ---- the attribute `outer` of a transaction, and of its cancel
 
 abbrev pub begins_outer_attribute : Option Tok → Bool
 begins_outer_attribute h = if is_next (Punctuator punct.OpenBracket) h then true else is_next (Keyword key.Attribute) h
@@ -133,7 +133,7 @@ outer_attribute =
     (enclosed_outer (Punctuator punct.OpenBracket) (Punctuator punct.CloseBracket))
     (behind (Keyword key.Attribute) (enclosed_outer (Punctuator punct.OpenParen) (Punctuator punct.CloseParen)))
 
--- whether the attribute `outer` stands here
+-- whether the attribute `outer` is next
 abbrev pub outer_attribute_if_any : Parser Bool
 outer_attribute_if_any = either begins_outer_attribute (map_parser (λ x. true) outer_attribute) (give false)
 
@@ -141,7 +141,7 @@ abbrev pub atomic_kind : Bool → TransactionKind
 atomic_kind true = Outer
 atomic_kind false = Plain Atomic
 
--- the kind of a transaction, behind its keyword
+-- the kind of a transaction, after its keyword
 abbrev pub kind : Mode → Parser TransactionKind
 kind Atomic = map_parser atomic_kind outer_attribute_if_any
 kind Relaxed = give (Plain Relaxed)
@@ -170,13 +170,13 @@ for_tree x = For x.0.0 x.0.1.0 x.0.1.1 x.1
 abbrev pub in_parens : {A : Type 0} → Parser A → Parser A
 in_parens P = behind (Punctuator punct.OpenParen) (before (Punctuator punct.CloseParen) P)
 
--- what stands in braces
+-- the contents of braces
 abbrev pub block_items : {A : Type 0} → Parser A → Parser (List A)
 block_items P =
     behind (Punctuator punct.OpenBrace)
     (before (Punctuator punct.CloseBrace) (many_until (is_next (Punctuator punct.CloseBrace)) P))
 
--- what an if chooses from; stmt: a statement
+-- the branches of an if; stmt: a statement
 abbrev pub branches : Parser Stmt → Parser (Stmt × Option Stmt)
 branches stmt = seq stmt (perhaps (Keyword key.Else) (behind (Keyword key.Else) stmt))
 
@@ -186,7 +186,7 @@ mode_token mode at = record { terminal = fixed (mode_keyword mode); span = at }
 
 -- d: the depth of a statement's parts
 module _ (d : ℕ) where
-  -- what stands in a block; stmt: a statement
+  -- an entry of a block; stmt: a statement
   abbrev pub entry : Parser Stmt → Parser Stmt
   entry stmt = either starts_type (map_parser Declare (declaration_at d)) stmt
 
@@ -221,7 +221,7 @@ module _ (d : ℕ) where
   abbrev pub head_of_for : Parser (Start × (Option Expr × Option Simple))
   head_of_for = behind (Punctuator punct.OpenParen) (seq start rest_of_head)
 
-  -- what stands behind the body of a do
+  -- what follows the body of a do
   abbrev pub end_of_do : Parser Expr
   end_of_do = behind (Keyword key.While) (before (Punctuator punct.Semicolon) (in_parens (whole_at d)))
 
@@ -237,7 +237,7 @@ module _ (d : ℕ) where
   abbrev pub simple_stmt : Parser Stmt
   simple_stmt = map_parser Do (before (Punctuator punct.Semicolon) (simple_at (suc d)))
 
-  -- a statement behind the keyword of a transaction, which has a span: an expression begins with it
+  -- a statement after the keyword of a transaction, which has a span: an expression begins with it
   abbrev pub value_stmt : Mode → Span → Parser Stmt
   value_stmt mode at = unless_too_deep d (λ ts. simple_stmt (mode_token mode at ∷ ts))
 
@@ -255,7 +255,7 @@ module _ (d : ℕ) where
     abbrev pub for_stmt : Parser Stmt
     for_stmt = map_parser for_tree (behind (Keyword key.For) (seq head_of_for stmt))
 
-    -- a statement that is a transaction, behind its keyword, which has a span
+    -- a statement that is a transaction, after its keyword, which has a span
     abbrev pub transaction_from : Mode → Span → Parser Stmt
     transaction_from mode at =
         either (is_next (Punctuator punct.OpenParen)) (value_stmt mode at)

@@ -1,4 +1,4 @@
--- When a table is one of a program.
+-- When a table belongs to a program.
 use Rattle.std.specs.Prelude.{◌≡◌, ℕ, suc, ◌+◌, List, [], ◌∷◌, Option, Some, None, option_map, if◌then◌else◌, bytes_eq}
 use Rattle.name_tables.specs.declared.entries.Table.{Table}
 use Rattle.name_tables.specs.Known.{entries_in}
@@ -17,38 +17,38 @@ abbrev pub total_cells : List Global → ℕ
 total_cells [] = 0
 total_cells (g ∷ gs) = cells g + total_cells gs
 
--- where a function of this name stands, where it has a body, or else one of the rest
+-- the position of a function of this name, if it has a body, or else of one of the rest
 abbrev pub place_first : ℕ → ℕ → Function → Option Stmts → (ℕ → Option FunctionPlace) → List ℕ → Option FunctionPlace
 place_first i n f None rest x = rest n
 place_first i n f (Some body) rest x =
     if bytes_eq f.name.text x then Some (record { item = i; number = n }) else rest (suc n)
 
--- where the function of this name stands, where the first of these items, and the first of them that has a body, have
+-- the position of the function of this name, if the first of these items, and the first of them that has a body, have
 -- these numbers
 abbrev pub place_from : ℕ → ℕ → Program → List ℕ → Option FunctionPlace
 place_from i n [] x = None
 place_from i n (Shares gs ∷ items) x = place_from (suc i) n items x
 place_from i n (Defines f ∷ items) x = place_first i n f f.body (λ m. place_from (suc i) m items x) x
 
--- an item's function, which has this number, where the item gives it a body
+-- an item's function, which has this number, if the item gives it a body
 abbrev pub numbered : ℕ → Item → Option NumberedFunction
 numbered n (Shares gs) = None
 numbered n (Defines f) = option_map (λ (body : Stmts). record { number = n; definition = (f, body) }) f.body
 
 module _ {A : Type 0} where
-  -- the global that a table has at a text, with its first cell
+  -- the global that a table has for a text, with its first cell
   abbrev pub shared_at : Table (Shared A) A → List ℕ → Option GlobalCells
   shared_at t x = option_map shared_in (first (entries_in t) x)
 
-  -- these are the globals of a program
+  -- the table holds the globals of a program
   abbrev pub AreGlobals : Program → Table (Shared A) A → Type 0
   AreGlobals p t = (x : List ℕ) → shared_at t x ≡ global_of p x
 
-  -- there stand the functions of a program that have a body
+  -- the table holds the functions of a program that have a body
   abbrev pub AreFunctions : Program → Table FunctionPlace A → Type 0
   AreFunctions p t = (x : List ℕ) → first (entries_in t) x ≡ place_from 0 0 p x
 
-  -- what was found, or else what is known otherwise
+  -- the meaning of the symbol that was found, or else a default
   abbrev pub known_or : Option (Symbol A) → Known → Known
   known_or None rest = rest
   known_or (Some s) rest = known_of s

@@ -11,7 +11,7 @@ use Rattle.replay.specs.declared.play.ReplayHalt.TheVariants.{Stopped, Refused}
 use Rattle.replay.specs.declared.line.TheConstants.{MOST_STEPS}
 use Rattle.replay.specs.Replays.{events_of, first_world, simulation_after, steps_of}
 
--- With room for so many steps before it and after it, these are the steps of the line, whatever lines follow it.
+-- With capacity for this many steps before it and after it, these are the steps of the line, whatever lines follow it.
 pub record Plays (line : Line) (room left : ℕ) (before after : Simulation) : Type 0 where
   pub made : List ℕ
   pub are : after ≡ further before made
@@ -19,33 +19,33 @@ pub record Plays (line : Line) (room left : ℕ) (before after : Simulation) : T
       steps_of before.code room (line ∷ lines) (world_of before)
       ≡ made ++ steps_of before.code left lines (world_of after)
 
--- With room for so many steps before it, these are the steps of the line up to one that is not made.
+-- With capacity for this many steps before it, these are the steps of the line up to one that is not made.
 pub record IsCut (line : Line) (room : ℕ) (before after : Simulation) : Type 0 where
   pub made : List ℕ
   pub are : after ≡ further before made
   pub named : (lines : List Line) → (later : List ℕ) ×
       (steps_of before.code room (line ∷ lines) (world_of before) ≡ made ++ line.thread ∷ later)
 
--- where a step of a thread was not made, the world is as it was
+-- if a step of a thread was not made, the world is unchanged
 abbrev pub HaltsAt : ℕ → ReplayHalt → Simulation → Simulation → List (ℕ × ℕ × Event) → Type 0
 HaltsAt t (Stopped reason) before after events =
     (after ≡ before) × StopsFor before t reason × (events ≡ events_of before)
 HaltsAt t Refused before after events = Unit {0}
 
--- where a line was not made to its end, all its steps before that were made
+-- if a line was not completed, all its steps before that were made
 abbrev pub HaltsIn : Line → ℕ → ReplayHalt → Simulation → Simulation → List (ℕ × ℕ × Event) → Type 0
 HaltsIn line room (Stopped reason) before after events =
     IsCut line room before after × StopsFor after line.thread reason × (events ≡ events_of after)
 HaltsIn line room Refused before after events = Unit {0}
 
--- a line whose steps are being made: so much of its count is left, and room for so many steps
+-- a line whose steps are being made: the rest of its count, and the capacity for this many steps
 pub record Going (line : Line) (room count left : ℕ) (before now : Simulation) : Type 0 where
   pub made : List ℕ
   pub are : now ≡ further before made
   pub named : (lines : List Line) → steps_of before.code room (line ∷ lines) (world_of before)
       ≡ made ++ steps_of before.code left (record line { count = count } ∷ lines) (world_of now)
 
--- a schedule that is being played: these lines are left, and room for so many steps
+-- a schedule that is being played: the remaining lines, and the capacity for this many steps
 pub record HasPlayed (code : Code) (threads : ℕ) (lines : List Line) (room : ℕ) (rest : List Line) (now : Simulation) :
     Type 0 where
   pub made : List ℕ

@@ -3,7 +3,7 @@ use Rattle.std.specs.Prelude.{◌≡◌, ℕ, ◌<◌, List, [], ◌∷◌, ◌+
 use Rattle.std.specs.Prelude.{Contains, slice_index_or, slice_set}
 use Rattle.safety.specs.Links.{Link}
 
--- numbers are above 0 and tell names apart; number 0 stands for what is in the set anyhow
+-- numbers are above 0 and distinguish names; number 0 denotes what is in the set unconditionally
 pub record IsNumbered (numbers : List ℕ → Option ℕ) (callers : List (List ℕ)) : Type 0 where
   pub begun : 0 < length callers
   pub within : (x : List ℕ) (k : ℕ) → numbers x ≡ Some k → (0 < k) × (k < length callers)
@@ -20,7 +20,7 @@ IsEdge numbers l j i = IsNumber numbers l.callee j × (numbers l.caller ≡ Some
 abbrev pub callers_at : List (List ℕ) → ℕ → List ℕ
 callers_at callers j = slice_index_or callers j []
 
--- each link is an edge, and each edge is a link's
+-- each link is an edge, and each edge comes from a link
 pub record HasLinks (links : List Link) (numbers : List ℕ → Option ℕ) (callers : List (List ℕ)) : Type 0 where
   pub complete : (l : Link) → Contains links l →
       (j : ℕ) × (i : ℕ) × IsEdge numbers l j i × Contains (callers_at callers j) i
@@ -30,7 +30,7 @@ pub record HasLinks (links : List Link) (numbers : List ℕ → Option ℕ) (cal
 abbrev pub ExtendsMap : (List ℕ → Option ℕ) → (List ℕ → Option ℕ) → Type 0
 ExtendsMap old new = (x : List ℕ) (k : ℕ) → old x ≡ Some k → new x ≡ Some k
 
--- a way from 0 to a number, by its last steps
+-- a path from 0 to a number, by its nodes in reverse
 abbrev pub IsWay : List (List ℕ) → List ℕ → ℕ → Type 0
 IsWay callers [] i = i ≡ 0
 IsWay callers (j ∷ js) i = Contains (callers_at callers j) i × IsWay callers js j
@@ -38,12 +38,12 @@ IsWay callers (j ∷ js) i = Contains (callers_at callers j) i × IsWay callers 
 abbrev pub IsReached : List (List ℕ) → ℕ → Type 0
 IsReached callers i = (js : List ℕ) × IsWay callers js i
 
--- which numbers are members, and those whose callers are to be members yet, in order
+-- which numbers are members, and the queue of those whose callers are still to be added
 pub record SearchState : Type 0 where
   pub members : List Bool
   pub queue : List ℕ
 
--- a number is put into the set and the queue, where it was no member yet
+-- adds a number to the set and the queue, if it was no member yet
 abbrev pub enqueue : SearchState → ℕ → SearchState
 enqueue s i =
     if slice_index_or s.members i true then s

@@ -5,7 +5,7 @@ use Rattle.safety.specs.declared.locals.Locals.{Locals}
 use Rattle.safety.specs.declared.site.TransactionsAround.{TransactionsAround}
 use Rattle.safety.specs.Sites.{Around}
 
--- these locals and transactions are round a point
+-- these locals and transactions surround a point
 abbrev pub around : List (List ℕ) → TransactionsAround → Around
 around names surroundings = record {
   locals = names;

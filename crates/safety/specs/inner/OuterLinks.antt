@@ -1,4 +1,4 @@
--- The links to which the functions keep that lead to an outer transaction.
+-- The links that the functions that lead to an outer transaction satisfy.
 use Rattle.std.specs.Prelude.{ℕ, List, [], ◌∷◌, Some, true}
 use Rattle.syntax.specs.Tree.{Item}
 use Rattle.safety.specs.Sites.{Construct, OpensOuter, Calls, Site}

@@ -1,4 +1,4 @@
--- Sets of functions as the demands read them.
+-- Sets of functions, in the form that the demands use.
 use Rattle.std.specs.Prelude.{◌≡◌, ℕ, List, not}
 use Rattle.syntax.specs.Tree.{Program}
 use Rattle.safety.specs.Sites.{attributes_of}

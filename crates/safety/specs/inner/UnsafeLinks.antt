@@ -1,4 +1,4 @@
--- The links to which the unsafe functions keep, and those of the functions that are declared safe.
+-- The links that the unsafe functions satisfy, and those of the functions that are declared safe.
 use Rattle.std.specs.Prelude.{ℕ, List, [], ◌∷◌, Some, Bool, true, false}
 use Rattle.std.specs.List.{flat_map}
 use Rattle.syntax.specs.declared.tree.Attribute.{Attribute}
@@ -27,7 +27,7 @@ unsafe_at f s = construct_links f s.construct
 abbrev pub unsafe_links : List Item → List Link
 unsafe_links = links_by says_unsafe unsafe_at
 
--- a function that is declared safe says so
+-- a function that is declared safe is in the set
 abbrev pub safe_links_of : Item → List Link
 safe_links_of (Defines f) = link_if (says_safe f.attributes) f.name.text
 safe_links_of (Shares gs) = []

@@ -1,4 +1,4 @@
--- What a walk adds to a list of sites.
+-- The sites that a traversal adds to a list.
 use Rattle.std.specs.Prelude.{◌≡◌, List, ◌++◌, Option}
 use Rattle.syntax.specs.Tree.{Expr, Simple, Start}
 use Rattle.safety.specs.declared.site.Site.{Site as OwnSite}
@@ -6,7 +6,7 @@ use Rattle.safety.specs.Sites.{Site, Around, with_names, sites_if_any, expr_site
 use Rattle.safety.specs.Sites.{names_of_start}
 use Rattle.safety.specs.Views.{sites_of_own}
 
--- these sites stand at the end
+-- these sites are appended
 abbrev pub Appends : List OwnSite → List OwnSite → List Site → Type 0
 Appends old new more = sites_of_own new ≡ sites_of_own old ++ more
 

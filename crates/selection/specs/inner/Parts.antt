@@ -1,4 +1,4 @@
--- What is picked for parts of expressions.
+-- The instructions that are picked for parts of expressions.
 use Rattle.std.specs.Prelude.{ℕ, Option, Some, None, ◌+◌, List}
 use Rattle.lex.specs.declared.token.Scalar.{Scalar}
 use Rattle.syntax.specs.Tree.{Expr, Constant, Program}

@@ -1,4 +1,4 @@
--- The links to which the touching functions keep.
+-- The links that the touching functions satisfy.
 use Rattle.std.specs.Prelude.{ℕ, List, [], ◌∷◌, Some, Bool, true, false}
 use Rattle.syntax.specs.Tree.{Item}
 use Rattle.safety.specs.Sites.{Construct, Calls, Uses, Site}
@@ -6,7 +6,7 @@ use Rattle.safety.specs.Links.{Link}
 use Rattle.safety.specs.SiteLinks.{link_if}
 use Rattle.safety.specs.inner.SiteLinks.{site_links}
 
--- a function with a bare access touches, and so does one with a bare call of a touching one
+-- a function with an unprotected access touches, and so does one with an unprotected call of a touching one
 abbrev pub bare_links : List ℕ → Bool → Construct → List Link
 bare_links f true c = []
 bare_links f false (Uses x) = link_if true f

@@ -1,4 +1,4 @@
--- What is known at a point of a text.
+-- The names known at a point of a text.
 use Rattle.std.specs.Prelude.{◌≡◌, ℕ, List, [], ◌∷◌, Option, Some, None, Bool, false, nat_le, length, take}
 use Rattle.syntax.specs.declared.tree.Function.{Function}
 use Rattle.syntax.specs.Tree.{Scalar, Declarator}
@@ -10,13 +10,13 @@ use Rattle.types.specs.declared.symbol.ScopeSymbol.{ScopeSymbol}
 use Rattle.types.specs.declared.table.ScopeTable.{ScopeTable}
 use Rattle.types.specs.inner.Scopes.{known_of}
 
--- the newest local of a name hides what the file declares
+-- the newest local of a name hides the file's declaration
 abbrev pub known_as : {A : Type 0} → Option (ℕ × Scalar) → Option (ScopeSymbol (Function A)) → Known
 known_as (Some l) declared = Number l.1
 known_as None (Some symbol) = known_of symbol
 known_as None None = Unknown
 
--- a local that was declared after so many
+-- a local that was declared after this many
 abbrev pub is_behind : ℕ → Option (ℕ × Scalar) → Bool
 is_behind start None = false
 is_behind start (Some l) = nat_le start l.0
@@ -37,7 +37,7 @@ module _ {A : Type 0} where
   abbrev pub count_in : ScopeTable A → ℕ
   count_in n = length (locals_of n)
 
-  -- a scope has grown: there may be further locals; without them it is as it was
+  -- a scope has grown: there may be further locals; without them it is unchanged
   pub record Grows (old new : ScopeTable A) : Type 0 where
     pub locals : take (count_in old) (locals_of new) ≡ locals_of old
     pub file : file_of new ≡ file_of old
@@ -47,7 +47,7 @@ module _ {A : Type 0} where
     pub locals : locals_of new ≡ locals_of old
     pub file : file_of new ≡ file_of old
 
-  -- these are the names declared since there were so many locals
+  -- these are the names declared since there were this many locals
   abbrev pub AreDeclared : ℕ → ScopeTable A → List (List ℕ) → Type 0
   AreDeclared start n declared = (x : List ℕ) → is_behind start (newest (locals_of n) x) ≡ has_name declared x
 

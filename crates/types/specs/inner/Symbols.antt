@@ -1,4 +1,4 @@
--- What the names of the file stand for.
+-- The symbols of the file.
 use Rattle.std.specs.Prelude.{◌≡◌, ℕ, List, Option, Some, None, Bool, false}
 use Rattle.syntax.specs.declared.tree.Function.{Function}
 use Rattle.syntax.specs.Typing.{is_unknown}
@@ -7,7 +7,7 @@ use Rattle.types.specs.declared.symbol.ScopeSymbol.{ScopeSymbol}
 use Rattle.types.specs.inner.Scopes.{known_of}
 
 module _ {A : Type 0} where
-  -- declared as nothing that is known
+  -- declared, but with no known kind
   abbrev pub is_nothing : Option (ScopeSymbol (Function A)) → Bool
   is_nothing None = false
   is_nothing (Some symbol) = is_unknown (known_of symbol)

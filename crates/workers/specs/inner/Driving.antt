@@ -1,4 +1,4 @@
--- The loops of workers on the way, as what drives them has it.
+-- The loops of workers in progress, as the code that drives them has them.
 use Rattle.std.specs.Prelude.{◌≡◌, ◌⊎◌, ℕ, List, [], ◌∷◌, Option, None, Some}
 use Rattle.std.specs.declared.thread.PromisedHandle.{PromisedHandle}
 use Rattle.atomic_table.specs.Seated.{TableId}
@@ -17,7 +17,7 @@ abbrev pub HasNumber : {X : Type 0} → (X → ℕ) → List X → ℕ → Type 
 HasNumber number [] n = ⊥
 HasNumber number (x ∷ xs) n = (number x ≡ n) ⊎ HasNumber number xs n
 
--- the words, where no thread has the lock; else the thread that has it
+-- the words, if no thread has the lock; otherwise the thread that has it
 abbrev pub TellsMemory : RunMemory → List ℕ → Option ℕ → Type 0
 TellsMemory (Words v) cells held = (v.items ≡ cells) × (held ≡ None)
 TellsMemory (LockHeld n) cells held = held ≡ Some n
@@ -40,7 +40,7 @@ module _ {A : Type 0} where
   AreFresh [] = Unit {0}
   AreFresh (w ∷ ws) = (w.steps ≡ 0) × AreFresh ws
 
-  -- each handle's thread gives back a worker of this hall, after so many steps
+  -- each handle's thread returns a worker of this hall, after this many steps
   abbrev pub AllPromise : Hall A → ℕ → List (PromisedHandle (Driven A) (OfHall A)) → Type 0
   AllPromise hall all [] = Unit {0}
   AllPromise hall all (h ∷ hs) = ((h.promise.hall.now ≡ hall) × (h.promise.budget ≡ all)) × AllPromise hall all hs

@@ -8,7 +8,7 @@ use Rattle.shared_words.specs.Rule.{SeatView}
 use Rattle.shared_words.specs.Setup.{Setup}
 use Rattle.workers.specs.Works.{GoesOnFrom, Works}
 
--- whatever the thread has done by then, with so many steps more it has done this
+-- from whatever work the thread has done by then, this many more steps lead to this
 abbrev pub LeadsSeated : Setup → Code → SeatView → Counted → ℕ → SeatView → Counted → Type 0
 LeadsSeated key code me from n now at =
     key.code ≡ code → (number steps : ℕ) (was : Works key number from.thread steps from.accesses me) →

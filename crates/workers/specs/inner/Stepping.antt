@@ -8,11 +8,11 @@ use Rattle.workers.specs.Workers.{IsWorkerAt}
 
 -- A is the allocator
 module _ {A : Type 0} where
-  -- a worker of the table that has made some number of steps, to which n more can be counted
+  -- a worker of the table that has made some number of steps, and can count n more
   abbrev pub CanStep : TableId → Setup → ℕ → Worker A → Type 0
   CanStep z key n w = (steps : ℕ) × IsWorkerAt z key steps w × (steps + n < 2 ^ 64)
 
-  -- a worker has gone on as `StepsOn` says, by n steps that are not yet counted
+  -- a worker has continued as `StepsOn` says, by n steps that are not yet counted
   abbrev pub StepsBy : TableId → Setup → ℕ → Worker A → Worker A → Type 0
   StepsBy z key n a b =
       (b.number ≡ a.number) × (b.steps ≡ a.steps) × ((steps : ℕ) (was : IsWorkerAt z key steps a) →

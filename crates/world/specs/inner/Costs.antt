@@ -1,4 +1,4 @@
--- What the next step of a thread counts.
+-- The cost of a thread's next step.
 use Rattle.std.specs.Prelude.{ℕ}
 use Rattle.world.specs.Simulations.{Simulation, part_of, cost_next}
 

@@ -1,4 +1,4 @@
--- What a world keeps, by the machine's world that its steps lead to.
+-- The invariant of a world, by the machine's world that its steps lead to.
 use Rattle.std.specs.Prelude.{◌≡◌, ◌≤◌, ℕ, suc, List, [], ◌∷◌, length}
 use Rattle.bytecode.specs.Beginning.{beginning}
 use Rattle.bytecode.specs.Code.{Code, Configuration, effect}
@@ -10,7 +10,7 @@ use Rattle.machine.specs.Traces.{RunsOn}
 use Rattle.machine.specs.Worlds.{Part, new_world}
 use Rattle.world.specs.Simulations.{Simulation, world_of, accesses_of}
 
--- a thread of the code, that of the machine's part, with no more accesses than so many
+-- a thread of the code, that of the machine's part, with at most this many accesses
 pub record IsOfPart (code : Code) (most : ℕ) (x : ThreadState) (p : Part Configuration) : Type 0 where
   pub thread : x.thread ≡ p.thread
   pub of : IsThreadOf code x.thread
@@ -28,8 +28,7 @@ AreFirstFrom code t [] = Unit {0}
 AreFirstFrom code t (x ∷ xs) =
     ((x.thread ≡ first_thread code t) × IsThreadOf code x.thread × (x.accesses ≡ 0)) × AreFirstFrom code (suc t) xs
 
--- the lock, the words and the threads are those of the world that the steps lead to, and none of the steps was one that
--- stops
+-- the lock, the words and the threads are those of the world that the steps lead to, and none of the steps stops
 pub record IsWorldOf (s : Simulation) (lock : ℕ) (words : List ℕ) (threads : List ThreadState) (accesses : ℕ) :
     Type 0 where
   pub valid : IsValid s.code
