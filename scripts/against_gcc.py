@@ -1,5 +1,5 @@
 #!/usr/bin/env python3
-"""Judges GCC's transactions (-fgnu-tm, libitm) by txc: tells each outcome of a program that no order of whole
+"""Checks GCC's transactions (-fgnu-tm, libitm) with txc: reports each outcome of a program that no order of whole
 transactions gives.
 
     scripts/against_gcc.py FILE [--threads T] [--runs N] [--pauses] [--all] ..
@@ -7,23 +7,23 @@ transactions gives.
     scripts/against_gcc.py --tutorial [--txc PATH]
 
 GCC builds the program at each level, with a harness (scripts/workloads/against.c) that calls `worker` in T threads N
-times over, each time from the globals' first values. Each build is run with each of libitm's methods. What is allowed
-is asked of `txc source`, order by order; a program that traps in one is left out, since C says nothing of it. A wrong
-outcome is told with the allowed one that differs from it in the fewest words, and the order that gives that. The last
-line tells how many runs were made in all: of a build with one method at most N, and with T threads no more than there
-are in 12 seconds, unless --fresh is given.
+times, each time from the initial values of the globals. Each build runs with each of libitm's methods. `txc source`
+gives the allowed outcomes, order by order. A program that traps in one order is left out, since C does not define what
+it does. A wrong outcome is reported with the allowed one that differs in the fewest words, and with that one's order.
+The last line counts all runs: N for each build and method, or fewer if threads need more than 12 seconds, unless
+--fresh is given.
 
---cc names another compiler that takes GCC's words, and --library a library in place of libitm that serves GCC's ABI of
-transactions. --report writes a C file for each program that is wrong, which stands by itself, with a `main` that tells
-the wrong outcome (scripts/lib/gcc_reports.py).
+--cc names another compiler that takes GCC's options, and --library a library in place of libitm that has GCC's ABI of
+transactions. --report writes a self-contained C file for each program with a wrong outcome, whose `main` reports that
+outcome (scripts/lib/gcc_reports.py).
 
 --generate makes random programs and shrinks each that has a wrong outcome. --tutorial runs each call of this
 script that a page of docs/ shows: with one thread GCC 12.2.0 has to print what the page shows; with more threads the
 result depends on the schedule, and is only printed.
 
-Exit status: 1 where something is wrong, 2 where a program is left out, words are of no use, or the compiler, its library
-or txc is not there. txc is the program that --txc or $TXC names, the one that `rt run` or scripts/quick_build.py makes,
-or `txc` on the path.
+Exit status: 1 if there is a wrong outcome, 2 if a program is left out, an argument is invalid, or the compiler, its
+library or txc is missing. txc is the program that --txc or $TXC names, the one that `rt run` or scripts/quick_build.py
+makes, or `txc` on the path.
 """
 
 import argparse
@@ -86,7 +86,7 @@ def write(path, text):
 
 
 def size(text):
-    """What an integer constant stands for."""
+    """The value of an integer constant."""
     return int(text, 8) if re.match(r"0\d", text) else int(text, 0)
 
 
@@ -133,7 +133,7 @@ def link_words(asked):
 
 
 def with_pauses(text):
-    """A program's text that waits by chance where it has marks, or where its transactions begin."""
+    """A program's text that waits at random where it has marks, or where its transactions begin."""
     pauses = text.replace("/*pause*/", "against_pause();")
     return pauses if pauses != text else TRANSACTION.sub(r"\1 against_pause();", text)
 
@@ -217,7 +217,7 @@ def judged(text, asked, first_only=False):
     return Judged(found, orders, builds.made)
 
 
-# ---- what is told ----------------------------------------------------------------------------------------------------
+# ---- reports ---------------------------------------------------------------------------------------------------------
 
 
 def counted_as(count, word):
@@ -249,7 +249,7 @@ def where(wrongs, methods):
 
 
 def told(it, asked):
-    """What is told of a program, line by line."""
+    """The report of a program, line by line."""
     found, orders, runs = it
     by_what = collections.defaultdict(list)
     for it in found:
@@ -289,7 +289,7 @@ def keep_report(name, text, it, asked):
 
 
 def judge_file(file, asked):
-    """Tells what a file's program does under GCC. Gives the exit status."""
+    """Reports what a file's program does under GCC. Returns the exit status."""
     text = read(file)
     it = judged(text, asked)
     print("\n".join(told(it, asked)))
@@ -365,28 +365,28 @@ def words(given=None):
     parser = reader(__doc__, usage="against_gcc.py (FILE | --generate SEED | --tutorial) [OPTION..]")
     what = parser.add_mutually_exclusive_group(required=True)
     what.add_argument("file", nargs="?", metavar="FILE")
-    what.add_argument("--generate", type=int, metavar="SEED", help="judges a program made by chance")
+    what.add_argument("--generate", type=int, metavar="SEED", help="judges random programs")
     what.add_argument("--tutorial", action="store_true", help="runs each call that a page of docs/ shows")
-    parser.add_argument("--threads", type=int, default=1, metavar="T", help="1 to 64, and 1 if not given")
-    parser.add_argument("--runs", type=int, metavar="N", help="2 of one thread and 2000 of more, if not given")
-    parser.add_argument("--cc", default="gcc", help="the compiler, with words of its own if there are any")
+    parser.add_argument("--threads", type=int, default=1, metavar="T", help="1 to 64 [default: 1]")
+    parser.add_argument("--runs", type=int, metavar="N", help="runs of a build [default: 2 with 1 thread, else 2000]")
+    parser.add_argument("--cc", default="gcc", help="the compiler, with its own options [default: gcc]")
     parser.add_argument("--library", metavar="FILE", help="a shared or static library in place of libitm")
-    parser.add_argument("--levels", default=LEVELS, help=f"{LEVELS} if not given")
+    parser.add_argument("--levels", default=LEVELS, help=f"of optimisation [default: {LEVELS}]")
     parser.add_argument(
-        "--methods", help=f"of libitm: {METHODS} if not given; of another library what it has, and default if not given"
+        "--methods", help=f"of the library [default: {METHODS}; of another one, default]"
     )
-    parser.add_argument("--flags", default="", help="more words for the compiler, in one")
+    parser.add_argument("--flags", default="", help="more options for the compiler, as one word")
     parser.add_argument("--report", metavar="FOLDER", help="writes a C file there for each program that is wrong")
     parser.add_argument(
-        "--pauses", action="store_true", help="waits by chance at /*pause*/, or where transactions begin"
+        "--pauses", action="store_true", help="waits at random at /*pause*/, or where transactions begin"
     )
     parser.add_argument("--fresh", action="store_true", help="starts threads for each run")
-    parser.add_argument("--all", action="store_true", help="tells each allowed outcome")
-    parser.add_argument("--no-deaths", action="store_true", help="passes over runs that a signal ends")
-    parser.add_argument("--count", type=int, default=1, metavar="N", help="programs by chance, from SEED on")
-    parser.add_argument("--weights", default="", help="what is drawn, as cancel=0,wide=8")
+    parser.add_argument("--all", action="store_true", help="prints each allowed outcome")
+    parser.add_argument("--no-deaths", action="store_true", help="ignores runs that a signal ends")
+    parser.add_argument("--count", type=int, default=1, metavar="N", help="programs, from SEED on [default: 1]")
+    parser.add_argument("--weights", default="", help="how often programs have a feature, as cancel=0,wide=8")
     parser.add_argument(
-        "--seconds", type=int, default=60, metavar="N", help="for shrinking one program, 60 if not given"
+        "--seconds", type=int, default=60, metavar="N", help="for shrinking one program [default: 60]"
     )
     parser.add_argument("--keep", metavar="FOLDER", help="writes each shrunk program there")
     parser.add_argument("--txc", metavar="PATH", help="the program")

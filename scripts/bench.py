@@ -1,5 +1,5 @@
 #!/usr/bin/env python3
-"""Measures txc, and prints tables of figures. It fails only if a run leaves something else in memory than it must.
+"""Measures txc, and prints tables of figures. It fails only if a run leaves wrong values in memory.
 
     scripts/bench.py CASE [ROUNDS] [--txc PATH]
 
@@ -14,9 +14,9 @@
     instructions   the processor's instructions, which no other load changes (scripts/lib/instruction_counts.py)
 
 Every implementation runs once in each of the ROUNDS. With one thread the figure is the least processor time, with four
-the median time on the clock, and the ratio is txc's time to the other's. The workloads are in examples/bench, and what
-the others need besides in scripts/workloads. GCC compiles with -O2 -fgnu-tm, without -fwrapv. What is not installed is
-named and left out.
+the median time on the clock, and the ratio is txc's time to the other's. The workloads are in examples/bench, and files
+for the other implementations in scripts/workloads. GCC compiles with -O2 -fgnu-tm, without -fwrapv. If a program is not
+installed, a line says so, and its figures are left out.
 """
 import os, re, resource, shutil, statistics, subprocess, sys, tempfile, time
 
@@ -29,10 +29,10 @@ LUA = ['primes', 'fib', 'compute']
 STEPS = 1048576
 # Programs whose threads share no data, each with what a thread prints.
 OWN = {'primes': '17984', 'fib': '196418', 'compute': '1026814725', 'sum': '842'}
-# By how many letters their names are made longer. The sizes of what is allocated hang on it, and so, which threads'
-# words would come to lie in one line of the processor's memory.
+# By how many letters their names are made longer. The sizes of allocations depend on it, and therefore which threads'
+# words are in one cache line.
 LONGER = [0, 5, 14, 40]
-# So many times as long as one thread are four of them to take at most.
+# Four threads should take at most this many times as long as one.
 GOAL = 1.1
 KEPT = 'break else for if int long printf return unsigned void worker'.split()
 # Programs that share data: whether the globals that a run with so many threads leaves are right.
@@ -138,8 +138,8 @@ def renamed(source, letters):
 
 
 def apart(program, rounds):
-    """Prints how long four threads that share no data take beside one, by names of several lengths: the median on the
-    clock and, which other work of the machine disturbs less, the least processor time of a thread."""
+    """Prints how long four threads that share no data take compared with one, for names of several lengths: the median
+    on the clock, and the least processor time of a thread, which other work of the machine disturbs less."""
     print('\nNo shared data: a program on one thread and on four\n')
     print('| Workload | Letters more in names | One, ms | Four, ms | Four / one | Four / one by processor time |')
     print('|---|---|---|---|---|---|')
@@ -184,8 +184,8 @@ def replays(program, rounds):
 
 
 def turns(program, rounds):
-    """Prints how long the source takes for so many turns of one thread, each of which
-    goes on from where the thread stood."""
+    """Prints how long the source takes for so many turns of one thread. Each turn
+    continues where the one before ended."""
     print('\n`txc source`, processor time\n\n| Turns of one thread | ms |\n|---|---|')
     with tempfile.TemporaryDirectory() as place:
         text = os.path.join(place, 'turns.c')
@@ -297,7 +297,7 @@ def starves(program, rounds):
     """Prints how long one thread takes that reads much while three others commit until it is done: the median on the
     clock. It says something only where each thread has a processor of its own: elsewhere a thread that loses its
     processor lets the reader through."""
-    print('\nA thread that starves: one that reads, beside three that commit; time on the clock\n')
+    print('\nA thread that starves: one that reads, while three commit; time on the clock\n')
     print('| Reads of the one thread | txc, ms | libitm, ms | txc / libitm |\n|---|---|---|---|')
     with tempfile.TemporaryDirectory() as place:
         text, built = os.path.join(place, 'reader.c'), os.path.join(place, 'reader')

@@ -1,20 +1,20 @@
 #!/usr/bin/env python3
-"""Tells what a check of a crate spends its time on: part by part, function by function, module by module.
+"""Shows where a check of a crate spends its time: part by part, function by function, module by module.
 
     scripts/check_profile.py [--most N] CRATE..
 
-Each crate is checked from nothing, with one job, over the libraries that lie in the out/ folders of the crates below
-it (`rt lib` builds those). The prover keeps each module as it ends with it: what a check takes between two of its
-files is the later one's. Seconds are of processor, whatever else the machine does; what the check has had is looked at
-twenty times a second. Of a function, or of the functions of a cycle, these are modules of its own:
+Each crate is checked from nothing, with one job, over the libraries in the out/ folders of the crates below it (`rt
+lib` builds those). The prover writes each module when it has finished it, so the time between two of its files belongs
+to the later one. Seconds are of processor, sampled twenty times a second. A function, or a cycle of functions, has
+these modules of its own:
 
-    Lts      its ways, point by point: its statements times what is alive there
+    Lts      its paths, point by point: its statements times what is alive there
     Proof    goals that have no answer, which the tactics search for
     Answers  goals that have one
-    Tie      how its ways come to its contract
+    Tie      how its paths lead to its contract
     others   its layout, its statement and the like
 
-What has no part is definitions and lemmas. N is how many rows each table has (10).
+Modules without a part hold definitions and lemmas. N is the number of rows of each table [default: 10].
 """
 
 import bisect

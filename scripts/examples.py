@@ -49,7 +49,7 @@ def names(pattern):
 
 
 def programs():
-    """Those of examples/, and those that are held against other implementations or measured."""
+    """Those of examples/, and those that are compared with other implementations or measured."""
     return [name for folder in ("", "against/", "bench/") for name in names(f"examples/{folder}*.c")]
 
 
@@ -240,7 +240,7 @@ fn wrong_transcript<H: Threads + Wait + Sync>(
 
 
 def told(source, out):
-    """What a report of one thread of a source says: the number of its trap or 0, what it printed,
+    """The contents of a report of one thread of a source: the number of its trap or 0, what it printed,
     and the words of memory."""
     end, rest = out.split("\n", 1)
     printed, memory = rest.split("== memory\n")

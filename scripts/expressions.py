@@ -1,12 +1,12 @@
 #!/usr/bin/env python3
-"""Holds expressions of the three types of numbers, drawn by chance, against Python's numbers and against GCC.
+"""Compares random expressions of the three types of numbers with Python's numbers and with GCC.
 
     scripts/expressions.py [COUNT [SEED]] [--txc PATH]
 
 Each of COUNT programs has six locals with values at the edges of their types, prints an expression over them, and
-stores it in two globals. `txc run` and `txc source` have to print the value that the rules of docs/LANGUAGE.md give
-here, in Python's numbers that have no bounds, or to end in the trap that they give. What does not trap is given to GCC
-too (`-fwrapv`), all in one program. SEED is where chance begins.
+stores it in two globals. `txc run` and `txc source` have to print the value that the rules of docs/LANGUAGE.md give in
+Python's unbounded numbers, or end in the trap that they give. Expressions that do not trap are also compiled by GCC
+(`-fwrapv`), all in one program. SEED is the first random seed.
 """
 
 import collections

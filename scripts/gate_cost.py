@@ -271,8 +271,8 @@ def gate(names):
 
 
 def same_files(commit, crate, part):
-    """Whether a crate has the files that it had at a commit, and for the part `wrong_s` all its wrong bodies stood
-    there as they are (with more of them it took more)."""
+    """Whether a crate has the files that it had at a commit, and for the part `wrong_s` all its mutants were there
+    unchanged (with more of them it took more)."""
 
     def differ(*words):
         run = subprocess.run(
@@ -291,8 +291,8 @@ def same_files(commit, crate, part):
 
 def table():
     """The table: of each part the least that it took of the files that the crate has now (what else a machine does adds
-    up to a third), or where none was of these the last value, of wrong bodies where there are as many still; the memory
-    is the most of the same lines."""
+    up to a third), or if none was of these the last value (for mutants, only if their number is unchanged); the
+    memory is the most of the same lines."""
     last, peaks, least = {}, {}, {}
     if os.path.isfile(CSV):
         with open(CSV, encoding="utf-8", newline="") as file:

@@ -1,19 +1,19 @@
 #!/usr/bin/env python3
-"""Puts a program where things go wrong, and fails where it then crashes, tells something else than what went wrong, or
-prints a report that says something else than it does elsewhere.
+"""Runs a program under hostile conditions. Fails if it crashes, reports another error than the one that occurred, or
+prints a report that differs from the usual one.
 
   scripts/hostile.py [--txc PATH]
 
 It takes less than a minute, and needs Linux, and `gcc` for the first part:
 
-  - each growth of each command refused in turn, by a library that is loaded before the system's and counts the calls of
-    `malloc` and its kin: `txc: out of memory`, or fault 73 where a thread is not started, or a whole report in which a
-    step was not made (stop 00)
-  - standard output full after each byte of a report, closed, and a pipe that nobody reads: `txc: cannot write`, behind
+  - each allocation of each command fails in turn, by a library that is loaded before the system's and counts the calls
+    of `malloc` and its kin: the answer is `txc: out of memory`, fault 73 if a thread cannot start, or a whole report in
+    which one step was not executed (stop 00)
+  - standard output is full after each byte of a report, closed, or a pipe without a reader: `txc: cannot write`, after
     no more than what fits
-  - sources that are a FIFO, a directory, a file that nobody may read, one that shrinks while it is read
-  - 64 threads of 64 frames each
-  - less address space than the program wants, from 20 MiB up in steps of 4
+  - the source is a FIFO, a directory, a file without read permission, or one that shrinks while it is read
+  - 64 threads have 64 frames each
+  - the address space is smaller than the program needs, from 20 MiB up in steps of 4
 """
 
 import os
@@ -92,7 +92,7 @@ def same(done, other):
 
 
 def is_stopped(done):
-    """Whether a report is whole, says that a step was refused memory, and is told so."""
+    """Whether a report is whole, says that a step got no memory, and standard error says so too."""
     return (
         done.stdout.startswith(b"== ")
         and b": stop 00\n" in done.stdout
@@ -109,13 +109,13 @@ def has_run(words, done, whole):
 
 
 def gives_up(done):
-    """Whether a refused growth is told, and nothing else."""
+    """Whether an allocation failure is reported, and nothing else."""
     told = not done.stdout and (done.stderr == OUT_OF_MEMORY or done.stderr.startswith(b"txc: fault 73"))
     return done.returncode == 4 and (told or is_stopped(done))
 
 
 def commands(txc, name, order):
-    """What is asked of a program."""
+    """The commands that run with a program."""
     file, schedule = f"{name}.c", ["--threads", "2", "--schedule", f"{name}.txt"]
     yield [txc, "check", file]
     yield [txc, "listing", file]
@@ -149,7 +149,7 @@ def refuse_each(words, library):
 
 def refuse_growths(txc):
     if not shutil.which("gcc"):
-        print("no gcc: no growth is refused")
+        print("no gcc: no allocation failure is tried")
         return
     with open("refuses.c", "w", encoding="utf-8") as file:
         file.write(REFUSES)
@@ -195,7 +195,7 @@ def close_output(txc):
     done = run(words, stdout=writer)
     os.close(writer)
     if done.returncode != 4 or done.stderr != b"txc: cannot write\n":
-        blame("a pipe that nobody reads", done)
+        blame("a pipe without a reader", done)
 
 
 def feed(path, text):
@@ -268,8 +268,8 @@ def in_space(space):
 
 
 def little_space(txc):
-    """A report that is whole and the same, or a fault that is told. Where not even the version is told the system has
-    not loaded it."""
+    """The report is whole and the same, or an error is reported. If not even the version is printed, the system has
+    not loaded the program."""
     lines = [words for name, (_, _, order) in PROGRAMS.items() for words in commands(txc, name, order)]
     whole = [run(words) for words in lines]
     for space in range(20, 204, 4):
@@ -298,7 +298,7 @@ def main():
         os.chdir(TOP)
     if faults:
         sys.exit("\n".join(faults))
-    print("nothing crashed, and what went wrong was told")
+    print("nothing crashed, and each error was reported")
 
 
 if __name__ == "__main__":

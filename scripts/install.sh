@@ -4,7 +4,7 @@
 #     scripts/install.sh PREFIX
 #
 # The program is $TXC, or the one that `rt run` or the gate makes, which is proved, or that of scripts/quick_build.py.
-# With $DESTDIR all of it is put below that folder, for whoever makes a package.
+# With $DESTDIR all of it is put below that folder, for packages.
 set -eu
 top=$(cd "$(dirname "$0")/.." && pwd)
 if [ $# -ne 1 ] || [ "${1#-}" != "$1" ]; then

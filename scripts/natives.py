@@ -1,14 +1,14 @@
 #!/usr/bin/env python3
-"""Holds native programs (scripts/native.py) against the source. Of each program drawn by chance, with sequentially
-consistent accesses and with acquire and release, runs with one thread to four have to be certified: `txc certify` has
-to say that the report is, byte for byte, what the source prints in the order of transactions that the run wrote down.
-And runs of native programs with a fault planted must not all be certified: validation that passes over a changed word,
-a lock that is not looked at behind a read, a release before the stores, an `unsigned` sum that does not wrap.
+"""Compares native programs (scripts/native.py) with the source. Each random program runs with sequentially consistent
+accesses and with acquire and release, and with one to four threads. `txc certify` has to confirm each run: its report
+is, byte for byte, what the source prints in the order of transactions that the run wrote down. For native programs with
+a planted fault, some run must not be certified. The faults: validation passes over a changed word, the lock is not
+checked after a read, the lock is released before the stores, an `unsigned` sum does not wrap.
 
     scripts/natives.py [PROGRAMS] [--txc PATH]
 
-PROGRAMS is how many are drawn. Left out, and counted, are runs that stop, and those for which `txc certify` has no
-memory. A program of which a run is not certified is kept, as out/natives-SEED.c.
+PROGRAMS is the number of random programs. Runs that stop, and those for which `txc certify` has no memory, are counted
+and left out. A program with a run that is not certified is kept as out/natives-SEED.c.
 """
 
 import collections
@@ -22,10 +22,10 @@ import native
 from lib.programs import WEIGHTS, Program, text_of
 from lib.words import TOP, TXC, asked, count, txc
 
-# What `txc certify` says by its exit status.
+# The exit statuses of `txc certify`.
 CERTIFIED, REFUTED = 0, 5
 RUNS = 60
-# Money goes from account to account, and their sum is looked at before each transfer, and in it.
+# Money goes from account to account, and their sum is checked before each transfer, and in it.
 CONTENDED = """int account[512];
 unsigned wrong;
 int sum(void) {
@@ -54,7 +54,7 @@ void worker(int self) {
     __transaction_atomic { x = (v >> 31) > 0u; }
 }
 """
-# A fault: a program that shows it, a header, and what stands there in place of what.
+# A fault: a program that shows it, a header, a text of the header, and the text in its place.
 FAULTS = {
     "validation passes over a changed word": (
         CONTENDED,
@@ -62,7 +62,7 @@ FAULTS = {
         "                return DROPPED;\n        FENCE(acquire);",
         "                continue;\n        FENCE(acquire);",
     ),
-    "the lock is not looked at behind a read": (
+    "the lock is not checked after a read": (
         CONTENDED,
         "machine.h",
         "if (SELDOM(atomic_load_explicit(&lock, LOAD_BEHIND) != t->snapshot)) {",

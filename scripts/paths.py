@@ -58,7 +58,7 @@ def files_and_folders():
 
 
 class Repository:
-    """The repository's paths, and all ends of them that begin behind a slash."""
+    """The repository's paths, and all ends of them that begin after a slash."""
 
     def __init__(self):
         self.paths = files_and_folders()
@@ -88,7 +88,7 @@ def lost_paths():
 
 
 def instructions():
-    """The instructions of a listing: words that have a type behind a point only, and words as they stand."""
+    """The instructions of a listing: words that always have a type after a point, and words without one."""
     text = read("crates/bytecode/specs/Listing.antt")
     text = text[text.index("not_word :") : text.index("if_instr_text :")]
     typed = set(re.findall(r'typed_word \(codes "([a-z]+)"\)', text))

@@ -1,20 +1,20 @@
 #!/usr/bin/env python3
-"""Holds pictures of replays against their timelines and their sources, and the pictures of the documents against what
-is drawn now.
+"""Compares pictures of replays with their timelines and sources, and the pictures in the documents with what is drawn
+now.
 
   scripts/pictures.py [SEEDS] [--txc PATH]           each program of examples/ by so many seeds, with two to four threads
-  scripts/pictures.py --write [SEEDS] [--txc PATH]   draws the pictures of docs/pictures/ anew, and replays nothing
+  scripts/pictures.py --write [SEEDS] [--txc PATH]   draws the pictures of docs/pictures/ again, and replays nothing
 
-Of each picture it is shown that
+Each picture has to fulfil these conditions:
 
   - it is XML;
-  - its glyphs are titled by the lines of the timeline that have one: accesses, what happens, begins, ends and prints,
-    up to access 400, or with `--from` among 400 accesses from that one on;
+  - its glyphs are titled by the lines of the timeline that have one: accesses, events, begins, ends and prints, up to
+    access 400, or with `--from` among 400 accesses from that one on;
   - it has an arrow for each abort, titled by the accesses of the last store to the word that had changed, if that is
     drawn, and of the load that found it;
   - each box is titled by a line of the source, and by the text of a transaction that begins on it;
   - it has a box for each attempt that begins in what is drawn;
-  - where all threads are over and nothing is cut off, the order at its foot, given to `txc source --order`, leaves what
+  - if all threads have ended and nothing is cut off, the order at its foot, given to `txc source --order`, leaves what
     the replay left.
 """
 
@@ -84,7 +84,7 @@ def order_at_foot(root):
 
 
 def shown(source):
-    """What is shown of a source: no carriage returns, and `?` for what is not printable ASCII."""
+    """A source as a picture shows it: no carriage returns, and `?` for each character that is not printable ASCII."""
     text = source.replace("\r", "")
     return "".join(it if it in "\n\t" or " " <= it <= "~" else "?" for it in text)
 

@@ -3,17 +3,17 @@
 
     scripts/quick_tests.py [--jobs N] [--unchecked] [CRATE..]
 
-The tests of each crate that has some, or of those that are named, are compiled with all that they call by `rt try
---test`, which puts checks into the code (of bounds, of sums that wrap, of freed memory), and run. Where code breaks a
-contract, no proof says so here, but a test that fails or a check that stops one: `.ci/run` proves.
+It compiles the tests of each crate, or of the given ones, by `rt try --test`, and runs them. `rt try` adds checks to
+the code (of bounds, of sums that wrap, of freed memory). If code breaks a contract, a test or a check may fail here;
+only `.ci/run` proves that none is broken.
 
-With --unchecked they are compiled as scripts/quick_build.py compiles the program, without these checks and optimised,
-which takes a fraction of the time: a sum that wraps, or an index out of bounds, is noticed only by what it leads to.
+With --unchecked the tests are compiled as scripts/quick_build.py compiles the program, without these checks and
+optimised, which takes a fraction of the time. A sum that wraps, or an index out of bounds, is then noticed only by its
+consequences.
 
-As many crates as --jobs says are tried side by side: as there are processors, at most four. Each holds up to 2 GB. A
-line tells what came of a crate's tests as they end, and the seconds of processor that they took; what a crate printed
-whose tests failed, or were not all run, follows. Ends in status 1 where there is such a crate. Nothing is written but a
-folder that is removed.
+--jobs N is the number of crates at once [default: the number of processors, at most 4]. Each needs up to 2 GB. A line
+reports the result of each crate's tests when they end, and their seconds of processor. The output of a crate follows if
+a test failed or did not run, and the exit status is then 1. Nothing is written except a folder that is removed.
 """
 
 import os
@@ -29,7 +29,7 @@ from lib.words import TOP, reader
 from quick_build import copy_sources, keep_bitcode, kit, linked, make_links
 
 RESULT = re.compile(r"^test result: (ok\. )?.*$", re.M)
-# On the clock, for the tests of one crate once they are compiled: other work may be going on.
+# On the clock, for the tests of one crate after compilation: the machine may have other work.
 SECONDS = "3600"
 # These take by far the longest, and begin first; of the others those with the longest sources.
 LONGEST = ("serving_replays_tests", "lower_tests", "serving_tests")

@@ -1,15 +1,15 @@
 #!/usr/bin/env python3
-"""Holds replays against the source: each program of examples/ is replayed by SEEDS seeds, with two to four threads,
-every other time cut off early. Where no thread has the lock at the end, its source is run in the order of the
-transactions that the replay tells of. Both have to leave the same memory; each thread has to have printed no more than
-there, and to be over in the same way if it is over.
+"""Compares replays with the source. Each program of examples/ is replayed by SEEDS seeds, with two to four threads, and
+half of the replays are cut off early. If no thread holds the lock at the end, the source runs in the order of the
+transactions in the replay's events. Both have to leave the same memory. Each thread of the replay has to have printed a
+prefix of its text there, and if it has ended, it has to have ended in the same way.
 
   scripts/replays.py [SEEDS] [--txc PATH]
 
 The order is that of the events: each commit, each trap, and each cancel of an outermost transaction is one turn. A
-transaction that is cancelled, or that writes nothing, may have found an earlier memory than that before its event, if
-others committed in between. So where the order of the events does not give what the replay gave, it is enough that
-another one does in which such turns stand earlier, behind their thread's turn before.
+transaction that is cancelled, or that writes nothing, may have read an earlier memory than that before its event, if
+others committed in between. If the order of the events does not give the result of the replay, it is therefore enough
+that another one does in which such turns come earlier, after their thread's turn before.
 """
 
 import glob
@@ -37,7 +37,7 @@ def report(txc, *words):
 
 
 def cancels_inside(source):
-    """Whether the program's cancels are of transactions that stand in others. They have to be all of one kind. An outer
+    """Whether the program's cancels are of transactions inside others. They have to be all of one kind. An outer
     cancel is taken for one of an outermost transaction."""
     kinds, blocks, opens = set(), [], False
     for word in re.findall(r"//.*|__transaction_cancel \[\[outer\]\]|__transaction_\w+|[{}]", source):
@@ -71,7 +71,7 @@ class Source:
         return threads, memory
 
     def gives(self, order, replayed, memory):
-        """Whether the order leaves this memory, and what threads of a replay have printed and how they are over."""
+        """Whether the order leaves this memory, and what threads of a replay have printed and how they have ended."""
         threads, left = self.run(order)
         return left == memory and all(
             text.startswith(part.rstrip("\n")) and (end == "running" or end == there)
@@ -79,8 +79,8 @@ class Source:
         )
 
     def placed(self, found, replayed, memory):
-        """Whether some order gives what the replay does in which each turn that changes something stands behind those
-        before it, and each that changes nothing there or at a place before, behind its thread's turn before."""
+        """Whether some order gives the result of the replay, in which each turn that changes something comes after
+        those before it, and each that changes nothing comes there or earlier, after its thread's turn before."""
         left = MOST_RUNS
 
         def fits(order, at, thread, was):

@@ -5,21 +5,24 @@
     scripts/style.py --write    lowers the numbers of that table; if there is no table, writes what is there now
     scripts/style.py FILE..     lists the phrases in these files
 
-It reads README.md, CONTRIBUTING.md, CHANGELOG.md, the pages of docs/, the crates' pages, the texts of --help and the
-messages. A file that the table does not name is allowed none, so the numbers only go down. Code, quotations and what
-EXCEPTIONS names are left out. The rules are in CONTRIBUTING.md, under Style.
+It reads README.md, CONTRIBUTING.md, CHANGELOG.md, the pages of docs/, the crates' pages, the texts of --help, the
+messages, and the comments and texts of scripts/ and .ci/. A file that the table does not name is allowed none, so the
+numbers only go down. Code, quotations and what EXCEPTIONS names are left out. The rules are in CONTRIBUTING.md, under
+Style.
 """
 
 import csv
 import glob
+import io
 import os
 import re
 import sys
+import tokenize
 
 from lib.words import TOP, reader
 
 TABLE = f"{TOP}/scripts/style_allowed.csv"
-# A phrase, and what to write; a blank stands for any white space. A phrase that begins with a capital is one at the
+# A phrase, and what to write; a blank matches any white space. A phrase that begins with a capital is one at the
 # beginning of a sentence, in that case alone.
 PHRASES = [
     (r"(?:is|are|was|were|be|been) told", "is reported, prints"),
@@ -60,11 +63,12 @@ PHRASES = [
     (r"hangs? on", "depends on"),
     (r"(?:That|What|Of|So) [a-z ]{0,40}\b(?:is|are|has|have|says)", "begin with the subject"),
 ]
-# What looks like such a phrase and is none: a file, or all, the text, and why it stays.
+# Texts that match a phrase and stay: a file, or all, the text, and why.
 EXCEPTIONS = [
     ("*", r"What[^.!?|]*\?", "a question"),
+    ("scripts/style.py", r"(?ms)^PHRASES = \[.*?^\]", "the phrases themselves"),
 ]
-# What is no prose of a page: code, headings, the targets of links, remarks of scripts, and quotations.
+# The parts of a page that are not prose: code, headings, the targets of links, remarks of scripts, and quotations.
 NO_PROSE = [
     re.compile(r"^( *)```.*?^\1```[ ]*$|<!--.*?-->", re.M | re.S),
     re.compile(r"^#+ .*$|<code>.*?</code>|`[^`]+`|\]\([^)]*\)|\"[^\"\n]{1,200}\"", re.M),
@@ -96,11 +100,45 @@ def prose_of_code(text):
     return re.sub(r"`[^`\n]+`", blank, "".join(kept))
 
 
+def prose_of_script(text):
+    """The comments of a script in Python, and its texts: docstrings, and literals of two words and more."""
+    lines = [[" "] * len(it) for it in text.split("\n")]
+    texts = tokenize.STRING, getattr(tokenize, "FSTRING_MIDDLE", None)
+    for kind, said, (first, start), _, _ in tokenize.generate_tokens(io.StringIO(text).readline):
+        if kind == tokenize.COMMENT or (kind in texts and " " in said and not said.startswith(("r", "fr"))):
+            values = r"\{[^{}\n]*\}" if said.startswith("f") else r"(?!)"
+            for at, line in enumerate(re.sub(values, blank, said).split("\n")):
+                column = 0 if at else start
+                lines[first - 1 + at][column : column + len(line)] = line
+    return re.sub(r"`[^`\n]+`", blank, "\n".join(map("".join, lines)))
+
+
+def prose_of_shell(text):
+    """The comments of a script of the shell, and its texts of two words and more."""
+    pattern = r"^[ ]*#[^\n]*|'[^'\n]* [^'\n]*'|\"[^\"\n]* [^\"\n]*\""
+    kept, at = [], 0
+    for found in re.finditer(pattern, text, re.M):
+        kept += [blank([text[at : found.start()]]), found[0]]
+        at = found.end()
+    return "".join(kept)
+
+
+def prose_of(path, text):
+    """The part of a file that a person reads as English."""
+    if path.endswith(".md"):
+        return prose_of_page(text)
+    if path.endswith(".rt"):
+        return prose_of_code(text)
+    return prose_of_shell(text) if text.startswith("#!/bin/sh") else prose_of_script(text)
+
+
 def files():
     pages = ["README.md", "CONTRIBUTING.md", "CHANGELOG.md", *glob.glob("docs/**/*.md", root_dir=TOP, recursive=True)]
     pages += glob.glob("crates/*/README.md", root_dir=TOP)
     code = ["crates/command/src/line.rt", *glob.glob("crates/messages/src/**/*.rt", root_dir=TOP, recursive=True)]
-    return [it for it in [*sorted(pages), *sorted(code)] if it not in WRITTEN]
+    scripts = [*glob.glob("scripts/**/*.py", root_dir=TOP, recursive=True), *glob.glob("scripts/*.sh", root_dir=TOP)]
+    scripts += glob.glob(".ci/*", root_dir=TOP)
+    return [it for it in [*sorted(pages), *sorted(code), *sorted(scripts)] if it not in WRITTEN]
 
 
 def compiled():
@@ -121,7 +159,7 @@ def hits(path):
     for where, pattern, _ in EXCEPTIONS:
         if where in ("*", path):
             text = re.sub(pattern, blank, text)
-    prose = prose_of_page(text) if path.endswith(".md") else prose_of_code(text)
+    prose = prose_of(path, text)
     found = [(it.start(), " ".join(it[0].split()), say) for pattern, say in PATTERNS for it in pattern.finditer(prose)]
     return [(prose.count("\n", 0, at) + 1, phrase, say) for at, phrase, say in sorted(found)]
 

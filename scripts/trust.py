@@ -8,7 +8,7 @@
 A definition has to be trusted if a public contract speaks by it. The script reads the clauses of each crate's public
 functions (and of an `impl Model` the type of its values; how private fields keep a value is the proof's). Their `ghost
 use` lines lead to the definitions of `specs/`, and from each of these every name is followed in turn: to a definition,
-or to the Rust type or constant that a path through `declared` stands for. If a name could be two things, both are
+or to the Rust type or constant that a path through `declared` means. If a name could be two things, both are
 followed. The toolchain's own definitions are followed likewise, into the library of its logic, and counted in a column
 of their own; under another release of the toolchain than the one that the table names, that column is not compared. A
 line counts if it is neither blank, nor a comment, nor an import. The script fails if a definition that it follows lies

@@ -1,12 +1,12 @@
 #!/usr/bin/env python3
-"""Holds replays of orders against the source: each program of examples/, and programs drawn by chance, with one thread
-to four in orders drawn by chance. `txc replay --order L` has to leave the globals of `txc source --order L` and to tell
-each thread's text and end as that does, but a thread that waits as running; no event may be an abort; and the schedule
-that it prints has to give the same report. Where a thread's ticks are used up in the source's order, nothing is held.
+"""Compares replays of orders with the source: each program of examples/, and random programs, with one thread to four,
+in random orders. `txc replay --order L` has to leave the globals of `txc source --order L`, and each thread's text and
+end, except that a waiting thread is `running`. No event may be an abort, and the schedule that the replay prints has to
+give the same report. If a thread runs out of ticks in the source's order, the order is left out.
 
   scripts/turns.py [PROGRAMS] [--txc PATH]
 
-PROGRAMS is how many programs are drawn.
+PROGRAMS is the number of random programs.
 """
 
 import collections

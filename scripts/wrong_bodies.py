@@ -1,24 +1,24 @@
 #!/usr/bin/env python3
-"""Tries wrong bodies that the gate leaves out: the edits below wrong_bodies/, which the prover has to refuse.
+"""Tries the mutants that the gate leaves out: the edits in wrong_bodies/, which the prover must refuse.
 
   scripts/wrong_bodies.py            tries all of them, crate by crate
   scripts/wrong_bodies.py CRATE..    tries those of these crates
-  scripts/wrong_bodies.py --read     tries none, and fails where an edit's `old:` text does not stand once in its file;
-                                     those of must-fail/ are read too, as the gate would find it out only at its end
+  scripts/wrong_bodies.py --read     tries none, and fails if an edit's `old:` text does not occur exactly once in its
+                                     file; it reads those of must-fail/ too, which the gate tries only at its end
 
-An edit has the form of those of a crate's must-fail/, which the gate tries. Here it is made in a copy of the crate's
-files, over the libraries that lie in the out/ folders of the crates below; `rt lib` builds those that do not. Edits
-of different functions are made in one copy, and these functions are checked with what they call (`rattle check
---only`), over what the crate's own out/incremental and such checks before have, first as they are: each is proved or
-refused by itself, since of the others it knows their contracts. What is not refused so is tried by itself, by a check
-of its functions, and of the whole crate where these are still proved.
+An edit has the form of those of a crate's must-fail/, which the gate tries. It is applied to a copy of the crate's
+files, over the libraries in the out/ folders of the crates below; `rt lib` builds those that are missing. Edits of
+different functions are applied to one copy. These functions and what they call are checked (`rattle check --only`) with
+what the crate's own out/incremental and earlier checks have, first without an edit. Each is proved or refused by
+itself, since the check uses only the contracts of the others. A mutant that is not refused in this way is tried alone,
+by a check of its functions, and by one of the whole crate if these are still proved.
 
-All of it runs at the lowest priority. A verdict is printed as it comes, with its seconds of processor, and kept in
-out/wrong_bodies.json under a sum of the toolchain, of the crate's files, of those below it and of the edit: what was
-tried with the same is not tried again, without that file all is. Several runs of different crates may go on side by
-side, and one more tells of all that they tried. At the end all are told by name. Ends in status 1 where one is not
-refused; one that is refused for a name alone, since a proof file cites what it takes away, shows nothing of its
-promise, and one at a limit of the prover little.
+Everything runs at the lowest priority. A verdict is printed at once, with its seconds of processor. It is
+kept in out/wrong_bodies.json under a hash of the toolchain, of the crate's files, of those below it and of the edit. A
+mutant with a kept verdict is not tried again. Several runs of different crates may work at the same time, and one more
+run reports the verdicts of all. The names of all mutants are printed at the end. Exit status 1 if one is not refused. A
+mutant that is refused for a name alone, since a proof file cites a name that the edit removes, shows nothing about its
+promise. One that is refused at a limit of the prover shows little.
 """
 
 import fcntl
@@ -79,7 +79,7 @@ def name_of(edit):
 
 def edited(crate, edit, made=()):
     """The texts of the files that an edit changes, by their paths in the crate, and the functions in which it does.
-    The texts that others made stand in the place of the crate's own, and are in what it gives."""
+    Texts that other edits made replace the crate's own, and are in the result."""
     texts, functions, path, old = dict(made), [], None, None
     for line in read(edit).splitlines():
         word, _, rest = line.partition(":")
@@ -93,17 +93,17 @@ def edited(crate, edit, made=()):
         elif word == "new":
             text = texts.get(path) or read(f"{TOP}/crates/{crate}/{path}")
             if text.count(old) != 1:
-                raise NotApplied(f"its old text stands {text.count(old)} times in crates/{crate}/{path}")
+                raise NotApplied(f"its old text occurs {text.count(old)} times in crates/{crate}/{path}")
             functions.append(function_at(path, text, text.index(old)))
             texts[path] = text.replace(old, rest)
     if not functions:
         raise NotApplied("it changes nothing")
-    # (an import that is changed beside a function is tried with that)
+    # (an import that is changed along with a function is tried with that)
     return texts, [it for it in functions if it] or [None]
 
 
 def function_at(path, text, at):
-    """The function in which a place of a file stands, as `rattle check --only` wants it, if it stands in one."""
+    """The function that contains a place of a file, as `rattle check --only` names it, if there is one."""
     module = [it for it in path.removesuffix(".rt").split("/")[1:] if it not in ("lib", "main", "mod")]
     where, function = module, None
     for line in text[: text.find("\n", at)].split("\n"):
@@ -236,7 +236,7 @@ def tried_together(crate, part, can, named, kept):
         refused.update({edit: whys[0]} if whys else {})
     if told or len(part) == 1:
         return refused, seconds
-    # Nothing is told where one does not compile, a function is not known, or the whole is more than the prover takes.
+    # There is no verdict if one does not compile, a function is unknown, or the prover cannot take the whole.
     print(f"{crate}, {len(part)} at once: none is tried: {first_error(lines)[:200]}", flush=True)
     wrong = untried(lines, texts)
     others = [edit for edit in part if wrong.isdisjoint(can[edit][1])]
@@ -261,8 +261,8 @@ def untried(lines, texts):
 
 
 def refusals(lines, texts):
-    """Of each function that a check tells of, why it is refused, or nothing: its answers are in its folder of proofs/,
-    and what else is said of it stands right above its line. One that waits for another's proof is not refused."""
+    """For each function that a check reports, why it is refused, or nothing. Its answers are in its folder of proofs/,
+    and other messages about it are right above its line. One that waits for another's proof is not refused."""
     told, above = {}, []
     for line in lines:
         of = CHECKED.match(line)
@@ -317,7 +317,7 @@ def tried(crate, edits, named, room):
     status, lines, seconds = check(crate, {}, named, *only, "--incremental", base)
     print(f"{crate}, as it is: {'NOT PROVED' if status else 'proved'}, {seconds:.0f} s", flush=True)
     if status:
-        yield from ((edit, UNKNOWN, f"its functions are not proved as they are: {lines[-1]}", 0.0) for edit in can)
+        yield from ((edit, UNKNOWN, f"its functions are not proved without it: {lines[-1]}", 0.0) for edit in can)
         can = {}
     is_over = False
     while not is_over:
@@ -368,7 +368,7 @@ def tell(edit, what, why, when):
 
 
 def try_all(crates):
-    """Tries the edits of crates, tells of each and of all, and gives the status."""
+    """Tries the edits of crates, reports each and all, and returns the status."""
     os.nice(19)
     signal.signal(signal.SIGTERM, lambda *_: sys.exit("ended by a signal; what was tried is kept"))
     named, built, came = libraries(), set(), {}
@@ -395,7 +395,7 @@ def try_all(crates):
 
 
 def told(came):
-    """Tells what all came to, by name, the refused ones first; gives the status."""
+    """Prints the verdicts of all, by name, the refused ones first; returns the status."""
     print()
     for what in (REFUSED, BY_NAME, AT_LIMIT, PASSES, UNREAD, UNCOMPILED, UNKNOWN):
         names = {}
@@ -416,7 +416,7 @@ def main():
     if given.read:
         edits = [*all_edits(crates)]
         wrong = [f"{os.path.relpath(edit, TOP)}: {why}" for crate, edit in edits if (why := why_unread(crate, edit))]
-        print("\n".join(wrong) or f"{len(edits)} wrong bodies can be applied")
+        print("\n".join(wrong) or f"{len(edits)} mutants can be applied")
         return 1 if wrong else 0
     unknown = [it for it in given.crates if it not in crates]
     if unknown:

@@ -1,5 +1,5 @@
-"""A program whose transactions a compiler runs wrongly, as one C file that stands by itself: it tells a wrong outcome,
-and has the commands, the compiler's version, what came and what may come at its head."""
+"""Writes a program that a compiler's transactions run wrongly as one self-contained C file. It reports a wrong outcome,
+and its head gives the commands, the compiler's version, the outcome and the allowed ones."""
 
 import json
 import os
@@ -20,7 +20,7 @@ RUNS = 100_000
 # Before the program's text, where it prints and where it pauses.
 PRINTS = "int against_print(const char *, ...);\n#define printf against_print\n"
 PAUSES = "__attribute__((transaction_pure)) void against_pause(void);\n"
-# Behind a program of one thread.
+# After a program of one thread.
 COMPARES = """\
 #include <stdio.h>
 
@@ -87,7 +87,7 @@ def report_text(report):
 
 
 def one_thread_code(report, variables, prints):
-    """What stands behind a program of one thread, which may give one report alone."""
+    """The code after a program of one thread, which may give one report alone."""
     values = {name: words.split() for name, _, words in (it.partition(" =") for it in report.memory.splitlines())}
     tables, lines = [], []
     for name, _, length in variables:
@@ -107,7 +107,7 @@ def one_thread_code(report, variables, prints):
 
 
 def many_threads_code(reports, variables, asked):
-    """What stands behind a program of more threads: the harness, and the reports that may come."""
+    """The code after a program of more threads: the harness, and the allowed reports."""
     with open(HARNESS, encoding="utf-8") as file:
         harness = OWN.sub(lambda it: it[0] if it[0][0] in '"/' else f"against_{it[0]}", file.read())
     harness = re.sub(r"\A(//[^\n]*\n)+", "", harness)
@@ -130,16 +130,16 @@ def report_commands(name, wrong, asked):
 
 
 def report_file(name, text, judged, told, asked, variables):
-    """The C file of a program: its name, its text, what came of it, what is told of that, and its globals."""
+    """The C file of a program, by its name, its text, its outcomes, the report on these, and its globals."""
     build, run = report_commands(name, judged.found[0], asked)
     head = [
-        "An outcome that no order of whole transactions gives. Where it comes, this program tells it, and ends with 1.",
+        "An outcome that no order of whole transactions gives. If it occurs, this program says so and exits with 1.",
         "",
         f"{asked.compiler}, {platform.machine()}",
         f"    {build}",
         f"    {run}",
         "",
-        "What came of many runs, and what may come:",
+        "The result of many runs, and the allowed outcomes:",
         *(f"    {it}" for it in told),
     ]
     comment = "\n".join(f"   {it}".rstrip().replace("*/", "* /") for it in head)

@@ -16,8 +16,8 @@ def calls(n):
 
 NARROW = 'the same of `sum` in `int`'
 
-# What is counted: the workload, a text in it, the number there, the two in its place, and how often the thing is done
-# with each.
+# The counts: what one is of, the workload, a text in it, the number there, the two in its place, and how often the
+# thing is done with each.
 COUNTED = [
     ('a transaction of `counter`', 'counter', 'i < {}', 500000, (1000, 3000), lambda n: n),
     ('a word that `longread` reads', 'longread', 'i < {}', 5000, (10, 30), lambda n: 512 * n),

@@ -1,7 +1,7 @@
 """What `txc listing` prints, as data: functions, instructions and texts, the transactions that are open at a place, and
 what operators on registers are in C. And the globals of a program, which a listing does not have.
 
-Of this native.py makes C for real threads, and spin.py a model for SPIN.
+native.py makes C for real threads from it, and spin.py a model for SPIN.
 """
 
 import re
@@ -45,7 +45,7 @@ def printed(*words):
 
 def types_of(source):
     """The type of each global, by name, by the grammar of docs/LANGUAGE.md: an item outside of braces that begins
-    with a type, and whose first name has no `(` behind it, declares globals."""
+    with a type, and whose first name has no `(` after it, declares globals."""
     words = [it for it in TOKEN.findall(source) if not it.startswith(("/*", "//", "#"))]
     words = [it for it in words if it.strip()]
     types, item, depth = {}, [], 0
@@ -108,7 +108,7 @@ class Code:
                 self.parameters[operands[0]] = len(operands) - 2
 
     def next_of(self, place, opens):
-        """The places where a way goes on from a place, each with the begins that are open there."""
+        """The places that execution may reach next from a place, each with the begins that are open there."""
         operation, operands = self.instructions[place]
         if operation == "begin":
             return [(place + 1, (*opens, place))]

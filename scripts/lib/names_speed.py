@@ -1,12 +1,12 @@
-"""The case `names` of scripts/bench.py: how long txc takes for names that are meant to take long, beside others of the
-same length and number, and for long sums.
+"""The case `names` of scripts/bench.py: how long txc takes for names that are chosen to take long, compared with others
+of the same length and number, and for long sums.
 
-First `txc check` of a function with 31,000 locals, a source of 1 MiB: whose names all have one hash, where a hash
-multiplies eight bytes by eight with a constant and no key (behind such a beginning one factor is 0, whatever comes
-after), and as many others. txc's hash has a key that is made of all names of the source, so both are to take as long.
-Then `txc listing` of a function with 60,000 locals and 60,000 uses of one, the newest or the oldest, and of 1 MiB of
-sums, of 11 terms each and of 90, of globals, of locals and of constants. The figures are the least processor time of
-the rounds.
+First `txc check` of a function with 31,000 locals, a source of 1 MiB. In one source all names have the same hash, if a
+hash multiplies eight bytes by eight with a constant and no key (one factor is 0, so the rest of the name does not
+matter). In another they do not. The key of txc's hash is computed from all names of the source, so both should take the
+same time. Then `txc listing` of a function with 60,000 locals and 60,000 uses of one, the newest or the oldest, and of
+1 MiB of sums, of 11 terms each and of 90, of globals, of locals and of constants. The figures are the least processor
+time of the rounds.
 """
 
 import os

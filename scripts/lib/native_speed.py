@@ -107,7 +107,7 @@ def certificate(room, name, threads):
 
 
 def limited():
-    """So much memory is a certificate to take at most."""
+    """Limits the memory that a certificate may take."""
     resource.setrlimit(resource.RLIMIT_AS, (6 << 30, 6 << 30))
 
 

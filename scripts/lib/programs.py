@@ -1,9 +1,9 @@
-"""Programs by chance, for txc and for GCC, and programs that are a little smaller.
+"""Random programs, for txc and for GCC, and programs that are a little smaller.
 
-A program is a tree, so that each one that shrinking gives is well formed. No program traps, loops for ever or reads
-what was not written: numbers are `unsigned` but for a few globals, indices are masked, divisors are odd, shifts are by
-constants, locals have first values, and a loop's counter is not assigned in its body. `/*pause*/` marks where a thread
-may wait while others run.
+A program is a tree, so that shrinking gives well-formed programs. No program traps, loops for ever or reads a location
+that was not written: numbers are `unsigned` except for a few globals, indices are masked, divisors are odd, shifts are
+by constants, locals have first values, and a loop's counter is not assigned in its body. `/*pause*/` marks where a
+thread may wait while others run.
 
 With the weight `wait` threads wait in loops around a transaction, for ever if no other thread ends the wait. The line
 of such a transaction has the mark WAIT; an iteration reads no local that an earlier one wrote. With the weight `alike`
@@ -21,7 +21,8 @@ Stmt = collections.namedtuple("Stmt", "form parts body tail")
 # text; whether what is unsafe, shared data, and leaving a loop may stand here; what a `return` gives; and whether an
 # outer one is around it.
 Place = collections.namedtuple("Place", "transactions depth is_atomic may_unsafe may_share in_loop returns in_outer")
-# How often what is drawn, beside what is always drawn; `room` is how many statements a transaction has.
+# How often a random program has each feature, in addition to what all have; `room` is the number of statements of a
+# transaction.
 WEIGHTS = {
     "nest": 3,
     "relaxed": 2,
@@ -71,7 +72,7 @@ def block(form, parts, body):
 
 
 class Program:
-    """What is drawn for one seed."""
+    """The random program of one seed."""
 
     def __init__(self, seed, threads, weights):
         self.chance, self.threads, self.weights = random.Random(seed), threads, {**WEIGHTS, **weights}
@@ -103,8 +104,8 @@ class Program:
         return self.pick(atoms)
 
     def value(self, names, depth):
-        """A transaction that is an expression: in it shared data may stand, wherever it stands itself."""
-        # GCC 12.2.0 ends with an internal error where a comparison stands in one
+        """A transaction that is an expression: shared data may occur in it, wherever it is itself."""
+        # GCC 12.2.0 ends with an internal error if one contains a comparison
         kept, self.compares = self.compares, False
         made = Expr("__transaction_atomic ({})", [self.expr(names, depth)])
         self.compares = kept
@@ -260,7 +261,7 @@ class Program:
             yield line(f"int {self.ints[-1]}" + self.pick(["", " = 5"]) + ";")
 
     def leads_to_outer(self, body):
-        """Whether an outer transaction, or a call of a function that leads to one, stands in these statements."""
+        """Whether an outer transaction, or a call of a function that leads to one, is among these statements."""
         marks = ["atomic [[outer]]"] + [f"{it['name']}(" for it in self.functions if it["outer"]]
         return (
             any(mark in it.form for it in body for mark in marks)

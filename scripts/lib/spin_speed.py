@@ -29,7 +29,7 @@ LIMITS = ("--limit", "100000000", "--memory", "6000")
 LAST = re.compile(r"states: (\d+), threads: \d+(.*)\n$")
 
 
-# So many bytes of what a command prints are read: the memory of a command is at least that of this process.
+# How many bytes of a command's output are read: the memory of a command is at least that of this process.
 TAIL = 4096
 
 

@@ -1,4 +1,4 @@
-"""Runs commands side by side and reports what came of each: what .ci/quick and .ci/release are made of."""
+"""Runs commands side by side and reports how each ended, for .ci/quick and .ci/release."""
 
 import os
 import re
@@ -38,7 +38,7 @@ def last_line(path):
 
 
 def said(status, seconds, step, path):
-    """What is reported of a step that ended: a line of its own, then the last line that it printed, or all if it failed."""
+    """The report of a step that ended: a line of its own, then the last line that it printed, or all if it failed."""
     words = " ".join(os.path.relpath(it, TOP) if os.path.isabs(it) and it.startswith(TOP) else it for it in step)
     if status is None:
         return f"NOT RUN        {words}"

@@ -1,4 +1,4 @@
-"""The words of a script's command line, with what the script says of itself as help, and the program that they name."""
+"""Reads the command line of a script, with the script's docstring as help, and finds the program that it names."""
 
 import argparse
 import os
@@ -10,14 +10,14 @@ BUILT = f"{TOP}/crates/txc/out/txc"
 
 
 def reader(says, **how):
-    """What reads the words of a script that says this of itself."""
+    """The parser of the command line of a script with this docstring."""
     form = argparse.RawDescriptionHelpFormatter
     return argparse.ArgumentParser(description=says, formatter_class=form, allow_abbrev=False, **how)
 
 
 def asked(says, *arguments):
-    """What the words ask of a script that says this of itself. An argument is the name of an option without a value, or
-    a name with how argparse takes it. If TXC is one of them, `txc` is the path of a program that exists."""
+    """The command line of a script with this docstring, parsed. An argument is the name of an option without a value,
+    or a name with how argparse takes it. If TXC is one of them, `txc` is the path of a program that exists."""
     words = reader(says)
     for it in arguments:
         name, how = (it, {"action": "store_true"}) if isinstance(it, str) else it
