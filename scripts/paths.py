@@ -6,10 +6,10 @@ Fails if
   - README.md, CONTRIBUTING.md, a page of docs/ or a crate's page has in backquotes the path of a file or folder that
     does not exist. NAME and other words in capitals mean any name; a path begins at the top, at crates/ or at a crate's
     folder, on that crate's own page at its folder; a mutant is CRATE/NAME;
-  - docs/BYTECODE.md lacks an instruction that a listing shows, or its table has another one;
+  - the table of docs/BYTECODE.md lacks an instruction that a listing shows, or has another one;
   - docs/COMMANDS.md lacks a command (scripts/pages.py looks for the options);
   - a comment of the parser states a rule that the grammar of docs/LANGUAGE.md does not have: a rule whose words are
-    those of the page, or RENAMED ones;
+    those of the page, or RENAMED ones; or that grammar has a keyword that no comment of the parser has;
   - a script of scripts/ is called by none in .ci/, neither directly nor by a script that is.
 """
 
@@ -97,15 +97,13 @@ def instructions():
 
 def wrong_instructions():
     page, (typed, plain) = read("docs/BYTECODE.md"), instructions()
-    spans = re.findall(r"`([^`\n]+)`", FENCED.sub("", page))
-    words = {it.split()[0] for it in spans if it.split()}
-    bases = {it.partition(".")[0] for it in words}
-    yield from (f"docs/BYTECODE.md lacks the instruction {it}" for it in sorted((typed - bases) | (plain - words)))
     rows = re.search(r"^\| Instruction \|[^\n]*\n\|[-|]+\|\n((?:\|[^\n]*\n)+)", page, re.M)
     if not rows:
         yield "docs/BYTECODE.md has no table whose first column is `Instruction`"
         return
     told = {it.split()[0] for row in rows[1].splitlines() for it in re.findall(r"`([a-z][^`]*)`", row.split("|")[1])}
+    bases = {it.partition(".")[0] for it in told}
+    yield from (f"the table of docs/BYTECODE.md lacks {it}" for it in sorted((typed - bases) | (plain - told)))
     known = typed | plain | {f"{it}.{kind}" for it in typed for kind in "sul"} | TYPES
     unknown = {it for it in told - known if not re.fullmatch(r"r[A-Z]", it)}
     yield from (f"docs/BYTECODE.md has the instruction {it}, which no listing shows" for it in sorted(unknown))
@@ -133,8 +131,10 @@ def wrong_grammar():
     grammar = normal(re.sub(r"^(\w+) += ", r"\1 ::= ", blocks[0], flags=re.M), {})
     known = {*re.findall(r"^(\w+) +=", blocks[0], re.M), "expr", "name", "const", "string"}
     known |= set(re.findall(r'Keyword key\.\w+\) = codes "(\w+)"', read("crates/lex/specs/Spelling.antt"))) | {"outer"}
-    found = 0
+    found, stated = 0, set()
     for path in sorted(glob.glob("crates/parse/src/*.rt", root_dir=TOP)):
+        comments = "".join(re.findall(r"^ *///.*\n", read(path), re.M))
+        stated |= {word for span in re.findall(r"`([^`]+)`", comments) for word in re.findall(r"\w+", span)}
         for comment in re.findall(r"^ */// ((?:`[^`]+`(?:, | or )?)+)", read(path), re.M):
             for rule in re.findall(r"`([^`]+)`", comment):
                 words = {RENAMED.get(it, it) for it in re.findall(r"\w+", rule)}
@@ -143,6 +143,8 @@ def wrong_grammar():
                 found += 1
                 if normal(rule, RENAMED) not in grammar:
                     yield f"the grammar of docs/LANGUAGE.md lacks `{rule}`, which {path} reads"
+    extra = set(re.findall(r'"(\w+)"', blocks[0])) - stated
+    yield from (f"the grammar of docs/LANGUAGE.md has {it}, which no comment of the parser has" for it in sorted(extra))
     if found < 30:
         yield f"only {found} comments of crates/parse/src state a rule in words of the grammar in docs/LANGUAGE.md"
 

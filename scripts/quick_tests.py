@@ -26,7 +26,7 @@ from concurrent.futures import ThreadPoolExecutor, as_completed
 
 from gate_cost import has_tests, libraries, measure
 from lib.words import TOP, reader
-from quick_build import copy_sources, keep_bitcode, kit, linked, make_links
+from quick_build import compare_logic, copy_sources, keep_bitcode, kit, linked, make_links
 
 RESULT = re.compile(r"^test result: (ok\. )?.*$", re.M)
 # On the clock, for the tests of one crate after compilation: the machine may have other work.
@@ -90,6 +90,7 @@ def main():
     known.sort(key=lambda it: (it in LONGEST, size_of(it)), reverse=True)
     if unknown := [it for it in given.crates if it not in known]:
         sys.exit(f"no crate with tests: {', '.join(unknown)}; these are: {', '.join(known)}")
+    compare_logic()
     enlarge_stack()
     failed, begun = [], time.monotonic()
     with tempfile.TemporaryDirectory(prefix="txc-quick-tests-") as work, ThreadPoolExecutor(given.jobs) as pool:
