@@ -28,7 +28,7 @@ import time
 
 from gate_cost import libraries
 from lib.words import TOP, reader
-from wrong_bodies import words_of
+from mutants import words_of
 
 PARTS = "Lts|Proof|Answers|Tie|Goals|Code|Layout|Named|Reads|Kinds|Statement|Met|Key|Invariants"
 PART = re.compile(rf"(.*?)\.({PARTS})\b.*")

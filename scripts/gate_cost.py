@@ -5,7 +5,7 @@
                                                 passes on its output, and appends to docs/gate_cost.csv a line for each
                                                 crate that was proved or had all its mutants tried
   scripts/gate_cost.py CRATE..                  measures crates one after another in copies, and appends a line for each
-  scripts/gate_cost.py --part check CRATE..     measures one part alone: check, tests or wrong (mutants)
+  scripts/gate_cost.py --part check CRATE..     measures one part alone: check, tests or mutants
   scripts/gate_cost.py --table                  prints the table: for each part of each crate the least measurement of the
                                                 current files
   scripts/gate_cost.py --write                  writes the table into CONTRIBUTING.md
@@ -35,7 +35,7 @@ from lib.words import TOP, reader
 
 CSV = f"{TOP}/docs/gate_cost.csv"
 PAGE = f"{TOP}/CONTRIBUTING.md"
-FIELDS = ["crate", "commit", "date", "check_s", "tests_s", "wrong_bodies", "wrong_s", "peak_mb"]
+FIELDS = ["crate", "commit", "date", "check_s", "tests_s", "mutants", "mutants_s", "peak_mb"]
 BEGIN, END = "<!-- measured: begin -->\n", "<!-- measured: end -->\n"
 
 
@@ -119,11 +119,11 @@ def measured(crate, parts, jobs):
                     sys.exit(f"{it} is not proved: see {log.name}")
             edits = [it for it in sorted(os.listdir(f"{here}/must-fail"))] if os.path.isdir(f"{here}/must-fail") else []
             edits = [it for it in edits if it.endswith(".edit")]
-            row["wrong_bodies"] = len(edits)
+            row["mutants"] = len(edits)
             tries = {
                 "check": (["rt", "check", "--jobs", str(jobs)], here, True),
                 "tests": (["rt", "test", "--jobs", str(jobs)], here, has_tests(here)),
-                "wrong": (["rt", "must-fail", crate], room, bool(edits)),
+                "mutants": (["rt", "must-fail", crate], room, bool(edits)),
             }
             for part in parts:
                 words, folder, is_there = tries[part]
@@ -155,7 +155,7 @@ def keep(row):
         writer.writerow(row)
 
 
-def wrong_bodies(crate):
+def mutants(crate):
     """How many mutants of a crate the gate tries."""
     folder = f"{TOP}/crates/{crate}/must-fail"
     return len([it for it in os.listdir(folder) if it.endswith(".edit")]) if os.path.isdir(folder) else 0
@@ -179,7 +179,7 @@ def work_of(pid):
     if "--crate-name" in words:
         return (
             words[words.index("--crate-name") + 1],
-            "wrong" if "/rt-edit-" in folder else "tests" if "--test" in words else "check",
+            "mutants" if "/rt-edit-" in folder else "tests" if "--test" in words else "check",
         )
     tests = [it[1] for it in (re.search(r"/bin/(\w+)_tests$", word) for word in words) if it]
     return (tests[0], "tests") if tests else None
@@ -248,12 +248,12 @@ def gate(names):
     # (what a run that fails took may be less than a proof: it is not kept)
     for crate in [] if run.returncode else libraries():
         # (tests that an earlier run proved are run all the same)
-        parts = [part for part in ("check", "tests", "wrong") if (crate, part) in proved]
-        if len(proved.get((crate, "wrong"), ())) < wrong_bodies(crate) + 2 * (wrong_bodies(crate) > 1):
+        parts = [part for part in ("check", "tests", "mutants") if (crate, part) in proved]
+        if len(proved.get((crate, "mutants"), ())) < mutants(crate) + 2 * (mutants(crate) > 1):
             # (some were kept; where there are more than one, a proof before them and one behind
             # have rooms of their own)
-            parts = [part for part in parts if part != "wrong"]
-        row = {"crate": crate, "wrong_bodies": wrong_bodies(crate)}
+            parts = [part for part in parts if part != "mutants"]
+        row = {"crate": crate, "mutants": mutants(crate)}
         for part in parts:
             ticks = sum(it for key, it in taken.items() if key[2] == (crate, part))
             row[f"{part}_s"] = round(ticks / os.sysconf("SC_CLK_TCK"))
@@ -271,7 +271,7 @@ def gate(names):
 
 
 def same_files(commit, crate, part):
-    """Whether a crate has the files that it had at a commit, and for the part `wrong_s` all its mutants were there
+    """Whether a crate has the files that it had at a commit, and for the part `mutants_s` all its mutants were there
     unchanged (with more of them it took more)."""
 
     def differ(*words):
@@ -286,7 +286,7 @@ def same_files(commit, crate, part):
     here = f"crates/{crate}"
     if differ("--", f"{here}/src", f"{here}/specs", f"{here}/proofs"):
         return False
-    return part != "wrong_s" or not differ("--diff-filter=d", "--", f"{here}/must-fail")
+    return part != "mutants_s" or not differ("--diff-filter=d", "--", f"{here}/must-fail")
 
 
 def table():
@@ -300,13 +300,13 @@ def table():
                 crate = row["crate"]
                 known = last.setdefault(crate, {})
                 taken = {
-                    part: int(row[part]) for part in ("check_s", "tests_s", "wrong_s") if row[part] not in ("", "0")
+                    part: int(row[part]) for part in ("check_s", "tests_s", "mutants_s") if row[part] not in ("", "0")
                 }
                 same = [part for part in taken if same_files(row["commit"], crate, part)]
-                if row["wrong_s"] != "" and int(row["wrong_bodies"]) != wrong_bodies(crate):
-                    row["wrong_s"] = ""
+                if row["mutants_s"] != "" and int(row["mutants"]) != mutants(crate):
+                    row["mutants_s"] = ""
                 known.update(
-                    {field: row[field] for field in FIELDS if row[field] != ""}, wrong_bodies=wrong_bodies(crate)
+                    {field: row[field] for field in FIELDS if row[field] != ""}, mutants=mutants(crate)
                 )
                 for part in taken:
                     held = int(row["peak_mb"])
@@ -321,11 +321,11 @@ def table():
         last[crate][part] = took
     for crate, known in last.items():
         known.update(
-            {} if known["wrong_bodies"] else {"wrong_s": 0},
+            {} if known["mutants"] else {"mutants_s": 0},
             **({} if has_tests(f"{TOP}/crates/{crate}") else {"tests_s": 0}),
         )
     number = lambda row, field: int(row.get(field) or 0)
-    whole = lambda row: sum(number(row, field) for field in ("check_s", "tests_s", "wrong_s"))
+    whole = lambda row: sum(number(row, field) for field in ("check_s", "tests_s", "mutants_s"))
     shown = lambda row, field: (
         "not measured" if field not in row else f"{int(row[field]):,}" if int(row[field]) else "–"
     )
@@ -337,11 +337,11 @@ def table():
     for crate in sorted((it for it in peaks if it in crates), key=lambda it: -whole(last[it])):
         row, peak = last[crate], max(peaks[crate].values()) / 1024
         lines.append(
-            f"| `{crate}` | {shown(row, 'check_s')} | {shown(row, 'tests_s')} | {shown(row, 'wrong_bodies')}"
-            f" | {shown(row, 'wrong_s')} | {f'{peak:.1f}' if peak else 'not measured'} |"
+            f"| `{crate}` | {shown(row, 'check_s')} | {shown(row, 'tests_s')} | {shown(row, 'mutants')}"
+            f" | {shown(row, 'mutants_s')} | {f'{peak:.1f}' if peak else 'not measured'} |"
         )
     rows = [last[it] for it in crates if it in last]
-    sums = [sum(number(row, field) for row in rows) for field in ("check_s", "tests_s", "wrong_bodies", "wrong_s")]
+    sums = [sum(number(row, field) for row in rows) for field in ("check_s", "tests_s", "mutants", "mutants_s")]
     minutes = (sums[0] + sums[1] + sums[3]) / 60
     most = max([max(peaks[it].values()) for it in crates if it in peaks] or [0]) / 1024
     lines.append(
@@ -366,7 +366,7 @@ def write():
 def main():
     words = reader(__doc__)
     words.add_argument("crates", nargs="*")
-    words.add_argument("--part", action="append", choices=["check", "tests", "wrong"])
+    words.add_argument("--part", action="append", choices=["check", "tests", "mutants"])
     words.add_argument("--jobs", type=int, default=2)
     words.add_argument("--gate", action="store_true")
     words.add_argument("--table", action="store_true")
@@ -377,7 +377,7 @@ def main():
         sys.exit(f"crates.txt names no {', '.join(unknown)}")
     status = gate(given.crates) if given.gate else 0
     for crate in () if given.gate else given.crates:
-        keep(measured(crate, given.part or ["check", "tests", "wrong"], given.jobs))
+        keep(measured(crate, given.part or ["check", "tests", "mutants"], given.jobs))
     if given.table:
         print(table(), end="")
     if given.write:

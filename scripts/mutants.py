@@ -1,9 +1,9 @@
 #!/usr/bin/env python3
-"""Tries the mutants that the gate leaves out: the edits in wrong_bodies/, which the prover must refuse.
+"""Tries the mutants that the gate leaves out: the edits in mutants/, which the prover must refuse.
 
-  scripts/wrong_bodies.py            tries all of them, crate by crate
-  scripts/wrong_bodies.py CRATE..    tries those of these crates
-  scripts/wrong_bodies.py --read     tries none, and fails if an edit's `old:` text does not occur exactly once in its
+  scripts/mutants.py            tries all of them, crate by crate
+  scripts/mutants.py CRATE..    tries those of these crates
+  scripts/mutants.py --read     tries none, and fails if an edit's `old:` text does not occur exactly once in its
                                      file; it reads those of must-fail/ too, which the gate tries only at its end
 
 An edit has the form of those of a crate's must-fail/, which the gate tries. It is applied to a copy of the crate's
@@ -14,7 +14,7 @@ itself, since the check uses only the contracts of the others. A mutant that is 
 by a check of its functions, and by one of the whole crate if these are still proved.
 
 Everything runs at the lowest priority. A verdict is printed at once, with its seconds of processor. It is
-kept in out/wrong_bodies.json under a hash of the toolchain, of the crate's files, of those below it and of the edit. A
+kept in out/mutants.json under a hash of the toolchain, of the crate's files, of those below it and of the edit. A
 mutant with a kept verdict is not tried again. Several runs of different crates may work at the same time, and one more
 run reports the verdicts of all. The names of all mutants are printed at the end. Exit status 1 if one is not refused. A
 mutant that is refused for a name alone, since a proof file cites a name that the edit removes, shows nothing about its
@@ -37,8 +37,8 @@ from gate_cost import below, libraries, measure
 from quick_build import kit
 from lib.words import TOP, asked
 
-EDITS = f"{TOP}/wrong_bodies"
-KEPT = f"{TOP}/out/wrong_bodies.json"
+EDITS = f"{TOP}/mutants"
+KEPT = f"{TOP}/out/mutants.json"
 PARTS = ("src", "specs", "proofs")
 REFUSED, BY_NAME, AT_LIMIT = "refused", "refused for a name alone", "refused at a limit of the prover"
 PASSES = "still proved"
@@ -62,7 +62,7 @@ def edits_of(crate):
 
 
 def all_edits(crates):
-    """Each edit with its crate: those of wrong_bodies/, and those that the gate tries."""
+    """Each edit with its crate: those of mutants/, and those that the gate tries."""
     yield from ((crate, edit) for crate in crates for edit in edits_of(crate))
     for edit in sorted(glob.glob(f"{TOP}/crates/*/must-fail/*.edit")):
         yield edit.split("/")[-3], edit
@@ -157,7 +157,7 @@ def words_of(crate, root, named):
 
 def check(crate, texts, named, *more):
     """Checks a copy of the crate with these texts in place of its own; gives the status, the lines and the seconds."""
-    with tempfile.TemporaryDirectory(prefix="wrong-body-") as room:
+    with tempfile.TemporaryDirectory(prefix="mutant-") as room:
         for part in PARTS:
             if os.path.isdir(f"{TOP}/crates/{crate}/{part}"):
                 shutil.copytree(f"{TOP}/crates/{crate}/{part}", f"{room}/{part}")
@@ -385,7 +385,7 @@ def try_all(crates):
         if new and not build_below(crate, named, built):
             came.update(dict.fromkeys(new, UNKNOWN))
             continue
-        with tempfile.TemporaryDirectory(prefix="wrong-bodies-") as room:
+        with tempfile.TemporaryDirectory(prefix="mutants-") as room:
             for edit, what, why, seconds in tried(crate, new, named, room):
                 came[edit] = what
                 tell(edit, what, why, f"{seconds:.0f} s")
@@ -420,7 +420,7 @@ def main():
         return 1 if wrong else 0
     unknown = [it for it in given.crates if it not in crates]
     if unknown:
-        sys.exit(f"wrong_bodies/ has none of {', '.join(unknown)}")
+        sys.exit(f"mutants/ has none of {', '.join(unknown)}")
     return try_all(given.crates or crates)
 
 
