@@ -8,6 +8,7 @@ Fails if
     folder, on that crate's own page at its folder; a mutant is CRATE/NAME;
   - the table of docs/BYTECODE.md lacks an instruction that a listing shows, or has another one;
   - docs/COMMANDS.md lacks a command (scripts/pages.py looks for the options);
+  - a call of txc in such a page has a command or an option that txc does not have;
   - a comment of the parser states a rule that the grammar of docs/LANGUAGE.md does not have: a rule whose words are
     those of the page, or RENAMED ones; or that grammar has a keyword that no comment of the parser has;
   - a script of scripts/ is called by none in .ci/, neither directly nor by a script that is.
@@ -20,6 +21,7 @@ import re
 import sys
 
 from lib.words import TOP, asked
+from pages import options
 
 PATH = re.compile(r"\.?\w[\w.*-]*(?:/[\w.*-]+)+/?|\.?\w[\w-]*/|\w[\w*-]*\.(?:rt|antt|py|sh|md|csv|edit)")
 PLACEHOLDER = re.compile(r"(?<![\w.])[A-Z]{2,}(?![\w.])")
@@ -109,9 +111,27 @@ def wrong_instructions():
     yield from (f"docs/BYTECODE.md has the instruction {it}, which no listing shows" for it in sorted(unknown))
 
 
+def commands():
+    return re.findall(r'(?:of_file|command_of)\(\s*alloc,\s*"([a-z]+)"', read("crates/command/src/line.rt"))
+
+
+def wrong_calls():
+    """Calls of txc in pages, in backquotes or at the beginning of a line of a block, that txc does not understand."""
+    names, known = {*commands(), "help"}, options() | {"help", "version"}
+    for page in pages():
+        is_block = False
+        for number, line in enumerate(read(page).splitlines(), 1):
+            is_block ^= line.lstrip().startswith("```")
+            begin = r"^(?:\$ )?|&& " if is_block else "`"
+            for call in re.findall(rf"(?:{begin})(?:out/)?txc ([a-z-][^`|]*)", line):
+                if re.match(r"[a-z]+(?: |$)", call) and call.split()[0] not in names:
+                    yield f"{page}:{number} calls txc {call.split()[0]}, which is no command"
+                for it in sorted(set(re.findall(r"(?<!\S)--([a-z][a-z-]*)", call)) - known):
+                    yield f"{page}:{number} calls txc with --{it}, which is no option"
+
+
 def wrong_commands():
-    names = re.findall(r'(?:of_file|command_of)\(\s*alloc,\s*"([a-z]+)"', read("crates/command/src/line.rt"))
-    page = read("docs/COMMANDS.md")
+    names, page = commands(), read("docs/COMMANDS.md")
     if len(names) < 5:
         yield "crates/command/src/line.rt makes its commands in a way that this script does not read"
     yield from (f"docs/COMMANDS.md lacks the command {it}" for it in names if it != "txc" and f"`txc {it}" not in page)
@@ -185,7 +205,7 @@ def uncalled():
 
 def main():
     asked(__doc__)
-    wrong = [*lost_paths(), *wrong_instructions(), *wrong_commands(), *wrong_grammar(), *uncalled()]
+    wrong = [*lost_paths(), *wrong_instructions(), *wrong_calls(), *wrong_commands(), *wrong_grammar(), *uncalled()]
     print("\n".join(wrong) or f"the paths of {len(pages())} pages exist, and each script is called")
     return 1 if wrong else 0
 
