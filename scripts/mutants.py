@@ -3,22 +3,35 @@
 
   scripts/mutants.py            tries all of them, crate by crate
   scripts/mutants.py CRATE..    tries those of these crates
-  scripts/mutants.py --read     tries none, and fails if an edit's `old:` text does not occur exactly once in its
-                                     file; it reads those of must-fail/ too, which the gate tries only at its end
+  scripts/mutants.py CRATE/NAME..
+                                tries these
+  scripts/mutants.py --read     tries none, and fails if an edit's `old:` text does not occur exactly once in its file;
+                                it reads those of must-fail/ too, which the gate tries only at its end
+  scripts/mutants.py --tests [--jobs N] [--unchecked] CRATE..
+                                runs the tests with each of them and with those of must-fail/, and proves nothing
 
 An edit has the form of those of a crate's must-fail/, which the gate tries. It is applied to a copy of the crate's
 files, over the libraries in the out/ folders of the crates below; `rt lib` builds those that are missing. Edits of
-different functions are applied to one copy. These functions and what they call are checked (`rattle check --only`) with
-what the crate's own out/incremental and earlier checks have, first without an edit. Each is proved or refused by
+different functions are applied to one copy. These functions and what they call are checked (`rattle check --only`)
+with what the crate's own out/incremental and earlier checks have, first without an edit. Each is proved or refused by
 itself, since the check uses only the contracts of the others. A mutant that is not refused in this way is tried alone,
 by a check of its functions, and by one of the whole crate if these are still proved.
 
-Everything runs at the lowest priority. A verdict is printed at once, with its seconds of processor. It is
-kept in out/mutants.json under a hash of the toolchain, of the crate's files, of those below it and of the edit. A
-mutant with a kept verdict is not tried again. Several runs of different crates may work at the same time, and one more
-run reports the verdicts of all. The names of all mutants are printed at the end. Exit status 1 if one is not refused. A
-mutant that is refused for a name alone, since a proof file cites a name that the edit removes, shows nothing about its
-promise. One that is refused at a limit of the prover shows little.
+Everything runs at the lowest priority. A verdict is printed at once, with its seconds of processor. It is kept in
+out/mutants.json under a hash of the toolchain, of the crate's files, of those below it and of the edit. A mutant with a
+kept verdict is not tried again. Several runs of different crates may work at the same time, and one more run reports
+the verdicts of all. The names of all mutants are printed at the end. Exit status 1 if one is not refused. A mutant that
+is refused for a name alone, since a proof file cites a name that the edit removes, shows nothing about its promise. One
+that is refused at a limit of the prover shows little.
+
+With --tests each mutant is compiled without proofs, as scripts/quick_tests.py does, with each crate of tests that names
+the mutant's crate in crates.txt. If none of these tests fails, the other crates of tests above it follow until one
+fails. First each crate of tests has to pass without a mutant. The results are kept in out/mutant_tests.json, so a run
+that is stopped can continue. --jobs N tries N mutants at once [default: 1]; each needs up to 2 GB. --unchecked leaves
+out the checks of bounds, sums that wrap and freed memory, which is faster, but a mutant that breaks memory safety may
+then do anything. It prints which tests catch which mutant, few tests that catch all of these, and which mutants no
+test catches. The last line is `N caught, M not caught`. Exit status 1 if a mutant cannot be compiled, or tests fail
+without one.
 """
 
 import fcntl
@@ -32,17 +45,27 @@ import signal
 import subprocess
 import sys
 import tempfile
+import threading
+from concurrent.futures import ThreadPoolExecutor, as_completed
 
-from gate_cost import below, libraries, measure
-from quick_build import kit
-from lib.words import TOP, asked
+from gate_cost import below, has_tests, libraries, measure
+from lib.words import TOP, reader
+from quick_build import compare_logic, copy_sources, kit, make_links
+from quick_tests import SECONDS, enlarge_stack, size_of, tried as tests_tried, tried_unchecked
 
 EDITS = f"{TOP}/mutants"
 KEPT = f"{TOP}/out/mutants.json"
+KEPT_TESTS = f"{TOP}/out/mutant_tests.json"
 PARTS = ("src", "specs", "proofs")
 REFUSED, BY_NAME, AT_LIMIT = "refused", "refused for a name alone", "refused at a limit of the prover"
 PASSES = "still proved"
 UNREAD, UNCOMPILED, UNKNOWN = "cannot be applied", "does not compile", "not tried"
+CAUGHT, MISSED = "caught", "not caught"
+ERROR = re.compile(r"\berror[:[]")
+FAILED_TEST = re.compile(r"^test (\S+) \.\.\. FAILED", re.M)
+# With a mutant a test may run for ever. It may take so many seconds on the clock, or so many times as many as all tests
+# of its crate take of processor without one.
+LEAST_LIMIT, TIMES_LIMIT = 120, 10
 IMPL = re.compile(r"(?:unsafe )?impl(?:<[^{]*?>)?\s+(?:(\w+)(?:<.*?>)?\s+for\s+)?&?(?:mut )?(\w+)(<[^{]*<)?")
 # A line of the prover, by the file that it speaks of; `at` names the declaration that it refuses, if it could read it.
 SAID = re.compile(r"(?:note: )?(?:\./)?(?P<file>\S+?):\d+:\d+: (?P<error>error: )?(?P<at>`[^`]*`: )?(?P<why>.*)")
@@ -127,14 +150,14 @@ def why_unread(crate, edit):
     return None
 
 
-def sums(crates, named):
-    """Of each crate a sum of the toolchain, of its files and of those of the crates below it."""
+def sums(crates, named, parts=PARTS):
+    """For each crate a hash of the toolchain, of its files in these parts, and of those of the crates below it."""
     kit_id = read(f"{kit()}/KIT-ID")
     rows = {row.partition(":")[0].strip(): row for row in read(f"{TOP}/crates.txt").splitlines()}
     own = {}
     for crate in {it for crate in crates for it in [crate, *below(crate, named)]}:
         made = hashlib.sha256(f"{kit_id} {rows[crate]}".encode())
-        for part in PARTS:
+        for part in parts:
             for path in sorted(glob.glob(f"{TOP}/crates/{crate}/{part}/**/*", recursive=True)):
                 if os.path.isfile(path):
                     made.update(f"{os.path.relpath(path, TOP)}\0{read(path)}\0".encode())
@@ -249,7 +272,7 @@ def tried_together(crate, part, can, named, kept):
 
 
 def first_error(lines):
-    return next((it for it in lines if re.search(r"\berror[:[]", it)), lines[-1])
+    return next((it for it in lines if ERROR.search(it)), lines[-1])
 
 
 def untried(lines, texts):
@@ -349,33 +372,33 @@ def build_below(crate, named, built):
     return True
 
 
-def all_kept():
-    return json.loads(read(KEPT)) if os.path.isfile(KEPT) else {}
+def all_kept(path=KEPT):
+    return json.loads(read(path)) if os.path.isfile(path) else {}
 
 
-def keep(key, came):
-    """Keeps what a try came to; other runs, of other crates, may do so at the same time."""
-    os.makedirs(os.path.dirname(KEPT), exist_ok=True)
-    with open(f"{KEPT}.lock", "w", encoding="utf-8") as lock:
+def keep(key, came, path=KEPT):
+    """Keeps the result of a try; other runs, of other crates, may do so at the same time."""
+    os.makedirs(os.path.dirname(path), exist_ok=True)
+    with open(f"{path}.lock", "w", encoding="utf-8") as lock:
         fcntl.flock(lock, fcntl.LOCK_EX)
-        with open(f"{KEPT}.new", "w", encoding="utf-8") as file:
-            json.dump({**all_kept(), key: came}, file, indent=0)
-        os.replace(f"{KEPT}.new", KEPT)
+        with open(f"{path}.new", "w", encoding="utf-8") as file:
+            json.dump({**all_kept(path), key: came}, file, indent=0)
+        os.replace(f"{path}.new", path)
 
 
 def tell(edit, what, why, when):
     print(f"{name_of(edit)}: {what}, {when}{why and ': '}{why[:200]}", flush=True)
 
 
-def try_all(crates):
-    """Tries the edits of crates, reports each and all, and returns the status."""
+def try_all(chosen):
+    """Tries edits, given by their crates, reports each and all, and returns the status."""
     os.nice(19)
     signal.signal(signal.SIGTERM, lambda *_: sys.exit("ended by a signal; what was tried is kept"))
     named, built, came = libraries(), set(), {}
     kept = all_kept()
-    of_crate = sums(crates, named)
-    for crate in crates:
-        keys = {it: hashlib.sha256(f"{of_crate[crate]} {it} {read(it)}".encode()).hexdigest() for it in edits_of(crate)}
+    of_crate = sums(chosen, named)
+    for crate, edits in chosen.items():
+        keys = {it: hashlib.sha256(f"{of_crate[crate]} {it} {read(it)}".encode()).hexdigest() for it in edits}
         new = [it for it, key in keys.items() if key not in kept]
         came.update({it: kept[key][0] for it, key in keys.items() if key in kept})
         if len(keys) > len(new):
@@ -408,20 +431,162 @@ def told(came):
     return 1 if {*came.values()} - {REFUSED, BY_NAME, AT_LIMIT} else 0
 
 
+class Tests:
+    """The crates of tests, run with mutants. The result of a run is kept under a hash of all that it was made from."""
+
+    def __init__(self, is_unchecked):
+        self.named, self.is_unchecked, self.lock = libraries(), is_unchecked, threading.Lock()
+        crates = [it for it in self.named if has_tests(f"{TOP}/crates/{it}")]
+        self.sizes = {it: size_of(it) for it in crates}
+        self.sums = sums(crates, self.named, ("src", "specs"))
+        self.kept, self.whole = all_kept(KEPT_TESTS), {it: threading.Lock() for it in crates}
+
+    def covering(self, crate):
+        """The crates of tests that name a crate, and the others above it; the smallest first."""
+        above = sorted((it for it in self.sizes if crate in [it, *below(it, self.named)]), key=self.sizes.get)
+        direct = [it for it in above if crate in [it, *self.named[it]]]
+        return direct, [it for it in above if it not in direct]
+
+    def key(self, tests, edit):
+        text = f"{read(edit)} {os.path.relpath(edit, TOP)}" if edit else ""
+        return hashlib.sha256(f"{self.sums[tests]} {self.is_unchecked} {text}".encode()).hexdigest()
+
+    def run(self, tests, limit, crate="", edit=""):
+        """Runs a crate of tests with a mutant, or without one: whether it was compiled, the tests that failed, the
+        seconds of processor, and why it was not compiled. The limit is in seconds for each test."""
+        key = self.key(tests, edit)
+        if key not in self.kept:
+            with tempfile.TemporaryDirectory(prefix="txc-mutant-") as work:
+                copy_sources(f"{work}/sources")
+                make_links(kit(), f"{work}/kit")
+                for path, text in edited(crate, edit)[0].items() if edit else ():
+                    with open(f"{work}/sources/crates/{crate}/{path}", "w", encoding="utf-8") as file:
+                        file.write(text)
+                how = tried_unchecked if self.is_unchecked else tests_tried
+                passed, result, seconds, text = how(tests, work, str(limit))
+            is_run, why = result.startswith("test result: "), first_error(text.splitlines() or [""])
+            failed = FAILED_TEST.findall(text) or ([] if passed or not is_run else ["(a test without a name)"])
+            came = [is_run, failed, round(seconds), "" if is_run else why]
+            # (other work of the machine may be why there is no result, or why tests fail without a mutant)
+            if not (edit and (is_run or ERROR.search(why)) or passed):
+                return came
+            with self.lock:
+                keep(key, came, KEPT_TESTS)
+                self.kept[key] = came
+        return self.kept[key]
+
+    def limit(self, tests):
+        """The limit for a test with a mutant, and why there is none: tests have to pass without a mutant."""
+        with self.whole[tests]:
+            is_kept = self.key(tests, "") in self.kept
+            is_run, failed, seconds, why = self.run(tests, SECONDS)
+        if not is_kept:
+            print(f"{tests}, no mutant: {'passed' if is_run and not failed else 'FAILED'}, {seconds} s", flush=True)
+        if is_run and not failed:
+            return max(LEAST_LIMIT, TIMES_LIMIT * seconds), ""
+        return 0, why or f"without a mutant {', '.join(failed)} fail"
+
+    def try_one(self, crate, edit):
+        """Runs the tests with a mutant: the verdict, the tests that catch it, the seconds of processor, and why it was
+        not tried."""
+        caught, seconds, (direct, others) = [], 0, self.covering(crate)
+        if why := why_unread(crate, edit):
+            return UNREAD, [], 0, why
+        for tests in [*direct, *others]:
+            if caught and tests not in direct:
+                break
+            limit, why = self.limit(tests)
+            if not limit:
+                return UNKNOWN, [], seconds, f"{tests}: {why}"
+            is_run, failed, taken, why = self.run(tests, limit, crate, edit)
+            seconds += taken
+            if not is_run:
+                return UNCOMPILED, [], seconds, f"{tests}: {why}"
+            caught += [f"{tests}::{it}" for it in failed]
+        why = "" if direct or others else "no crate of tests is above it"
+        return CAUGHT if caught else MISSED, caught, seconds, why
+
+
+def end_children(*_):
+    """Ends what this process has started, and then itself."""
+    for path in glob.glob(f"/proc/{os.getpid()}/task/*/children"):
+        for pid in read(path).split():
+            os.kill(int(pid), signal.SIGTERM)
+    sys.exit("ended by a signal; what was tried is kept")
+
+
+def few_tests(by_test):
+    """Few tests that catch all mutants which some test catches: each next one catches most of those that are left."""
+    chosen, left = [], {it for names in by_test.values() for it in names}
+    while left:
+        chosen.append(max(sorted(by_test), key=lambda it: len(left & set(by_test[it]))))
+        left -= set(by_test[chosen[-1]])
+    return chosen
+
+
+def run_tests(chosen, jobs, is_unchecked):
+    """Runs the tests with mutants, each given with its crate. Returns the exit status."""
+    compare_logic()
+    os.nice(19)
+    enlarge_stack()
+    signal.signal(signal.SIGTERM, end_children)
+    tests, came, by_test = Tests(is_unchecked), {}, {}
+    with ThreadPoolExecutor(jobs) as pool:
+        runs = {pool.submit(tests.try_one, crate, edit): f"{crate}/{name_in(edit)}" for crate, edit in chosen}
+        try:
+            for run in as_completed(runs):
+                name, (what, caught, seconds, why) = runs[run], run.result()
+                came.setdefault(what, []).append(name)
+                for it in caught:
+                    by_test.setdefault(it, []).append(name)
+                times = f" by {len(caught)} {'test' if len(caught) == 1 else 'tests'}" if caught else ""
+                print(f"{name}: {what}{times}, {seconds} s{why and ': '}{why[:200]}", flush=True)
+        except BaseException:
+            pool.shutdown(cancel_futures=True)
+            raise
+    print("\nTests, and the mutants that they catch:")
+    for it, names in sorted(by_test.items()):
+        print(f"  {it}: {', '.join(sorted(names))}")
+    if few := few_tests(by_test):
+        print(f"{len(few)} of {len(by_test)} tests catch all of these: {', '.join(few)}")
+    for what in (MISSED, UNREAD, UNCOMPILED, UNKNOWN):
+        if what in came:
+            print(f"{what}: {', '.join(sorted(came[what]))}")
+    print(f"{len(came.get(CAUGHT, []))} caught, {len(came.get(MISSED, []))} not caught")
+    return 1 if came.keys() - {CAUGHT, MISSED} else 0
+
+
+def name_in(edit):
+    return os.path.basename(edit).removesuffix(".edit")
+
+
 def main():
-    given = asked(__doc__, "--read", ("crates", {"nargs": "*", "metavar": "CRATE"}))
+    words = reader(__doc__)
+    words.add_argument("--read", action="store_true")
+    words.add_argument("--tests", action="store_true")
+    words.add_argument("--jobs", type=int, default=1, metavar="N")
+    words.add_argument("--unchecked", action="store_true")
+    words.add_argument("crates", nargs="*", metavar="CRATE[/NAME]")
+    given = words.parse_args()
     crates = sorted(os.listdir(EDITS))
-    if given.read and given.crates:
-        sys.exit("--read reads those of all crates")
+    if given.read and (given.crates or given.tests):
+        words.error("--read reads those of all crates, and runs none")
+    edits = [*all_edits(crates)]
     if given.read:
-        edits = [*all_edits(crates)]
         wrong = [f"{os.path.relpath(edit, TOP)}: {why}" for crate, edit in edits if (why := why_unread(crate, edit))]
         print("\n".join(wrong) or f"{len(edits)} mutants can be applied")
         return 1 if wrong else 0
-    unknown = [it for it in given.crates if it not in crates]
-    if unknown:
-        sys.exit(f"mutants/ has none of {', '.join(unknown)}")
-    return try_all(given.crates or crates)
+    if given.tests and not given.crates:
+        words.error("--tests needs crates or mutants")
+    if not given.tests:
+        edits = [it for it in edits if it[1].startswith(f"{EDITS}/")]
+    known = {it for crate, edit in edits for it in (crate, f"{crate}/{name_in(edit)}")}
+    if unknown := [it for it in given.crates if it not in known]:
+        sys.exit(f"there are no mutants {', '.join(unknown)}")
+    chosen = [it for it in edits if not given.crates or {it[0], f"{it[0]}/{name_in(it[1])}"} & {*given.crates}]
+    if given.tests:
+        return run_tests(chosen, given.jobs, given.unchecked)
+    return try_all({crate: [edit for of, edit in chosen if of == crate] for crate, _ in chosen})
 
 
 if __name__ == "__main__":

@@ -29,7 +29,7 @@ from lib.words import TOP, reader
 from quick_build import compare_logic, copy_sources, keep_bitcode, kit, linked, make_links
 
 RESULT = re.compile(r"^test result: (ok\. )?.*$", re.M)
-# On the clock, for the tests of one crate after compilation: the machine may have other work.
+# On the clock, for each test: the machine may have other work.
 SECONDS = "3600"
 # These take by far the longest, and begin first; of the others those with the longest sources.
 LONGEST = ("serving_replays_tests", "lower_tests", "serving_tests")
@@ -49,10 +49,11 @@ def enlarge_stack():
     resource.setrlimit(resource.RLIMIT_STACK, (STACK if most == resource.RLIM_INFINITY else min(STACK, most), most))
 
 
-def tried(crate, work):
-    """Tries a crate's tests: whether all passed, their result, the seconds of processor, and all that was printed."""
+def tried(crate, work, limit=SECONDS):
+    """Tries a crate's tests: whether all passed, their result, the seconds of processor, and all that was printed. The
+    limit is in seconds on the clock, for each test."""
     with open(f"{work}/{crate}", "w+", encoding="utf-8", errors="replace") as said:
-        words = [f"{work}/kit/bin/rt", "try", "--test", "--seconds", SECONDS]
+        words = [f"{work}/kit/bin/rt", "try", "--test", "--seconds", limit]
         status, seconds, _ = measure(words, f"{work}/sources/crates/{crate}", said)
         said.seek(0)
         text = said.read()
@@ -60,7 +61,7 @@ def tried(crate, work):
     return status == 0 and result and result[1], result[0] if result else f"ended in status {status}", seconds, text
 
 
-def tried_unchecked(crate, work):
+def tried_unchecked(crate, work, limit=SECONDS):
     """The same, without checks in the code."""
     links, bitcode, program = (f"{work}/{crate}.{it}" for it in ("kit", "bc", "tests"))
     folder = f"{work}/sources/crates/{crate}"
@@ -72,7 +73,7 @@ def tried_unchecked(crate, work):
             said.seek(0)
             said.truncate()
             linked(bitcode, f"{work}/sources", links, program)
-            _, more, _ = measure([f"{kit()}/bin/rattle-test", "--seconds", SECONDS, program], folder, said)
+            _, more, _ = measure([f"{kit()}/bin/rattle-test", "--seconds", limit, program], folder, said)
             seconds += more
         said.seek(0)
         text = said.read()
