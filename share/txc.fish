@@ -66,7 +66,7 @@ complete -c txc -n '__fish_seen_subcommand_from certify' -l format -x -a 'short 
 complete -c txc -n '__fish_seen_subcommand_from certify' -l threads -x -d 'Number of threads, 1 to 64 [default: 1]'
 complete -c txc -n '__fish_seen_subcommand_from certify' -l order-file -r -F -d 'File with the order of transactions: thread numbers between commas, blanks or line ends'
 complete -c txc -n '__fish_seen_subcommand_from certify' -l report -r -F -d 'File with the report to check'
-complete -c txc -n '__fish_seen_subcommand_from certify' -l ticks -x -d 'Limit on the ticks of each thread (statements, loop iterations, calls), 0 to 4294967295 [default: 4294967295]'
+complete -c txc -n '__fish_seen_subcommand_from certify' -l ticks -x -d 'Limit on the ticks of each thread (statements, loop iterations, calls), 0 to 4294967295 [default: no limit]'
 complete -c txc -n '__fish_seen_subcommand_from certify' -l help -d 'Print help'
 complete -c txc -n __fish_use_subcommand -a explain -d 'Explain a fault (an error that txc reports) or how a thread ended, with an example'
 complete -c txc -n '__fish_seen_subcommand_from explain' -a 'trap budget spent waits running stop'

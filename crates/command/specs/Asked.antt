@@ -203,7 +203,7 @@ pub record AreClaimFiles (given : List Row) (order report : Text) : Type 0 where
 pub record IsClaim (given : List Row) (claim : Claim) : Type 0 where
   pub threads : AreThreadsGiven given claim.threads
   pub files : AreClaimFiles given (string_bytes claim.order) (string_bytes claim.report)
-  pub ticks : IsNumberInRange given (codes "ticks") 4294967295 0 4294967295 claim.ticks
+  pub ticks : IsNumberRead (one_of (codes "ticks") given) claim.ticks
 
 -- a file is given for one of two arguments, and none for the other; it and the source are not both standard input
 pub record IsGivenAlone (given : List Row) (id other file : Text) : Type 0 where

@@ -6,9 +6,9 @@ ghost use Rattle.command.specs.Asked.{AreClaimFiles, IsClaim, IsNotBoth};
 ghost use Rattle.command.specs.declared.request.Claim.{Claim};
 ghost use Rattle.command.specs.inner.Refusals.{IsOwn};
 
-use crate::given::{text_wanted, wrong};
+use crate::given::{number_given, text_wanted, wrong};
 use crate::request::{Claim, UsageFault};
-use crate::task::{are_both, number, threads};
+use crate::task::{are_both, threads};
 use clap::ArgMatches;
 use std::alloc::Global;
 
@@ -38,7 +38,7 @@ pub(crate) fn claim(alloc: Global, given: &ArgMatches<'_>) -> Result<Claim, Usag
     ensures err { IfErr result (IsOwn ((c : Claim) → IsClaim (rows_of (found_of given.now)) c → ⊥)) }
 {
     let threads = threads(alloc, given)?;
-    let ticks = number(alloc, given, "ticks", u32::MAX, 0, u32::MAX)?;
+    let ticks = number_given(alloc, given, "ticks", 0, u32::MAX)?;
     let order = file_given(alloc, given, "order-file", "FILE and S can't both be -")?;
     let report = file_given(alloc, given, "report", "FILE and R can't both be -")?;
     if order.as_str() == "-" && report.as_str() == "-" {

@@ -431,7 +431,7 @@ fn certify<'a>(alloc: Global) -> Result<Command<'a>, AllocError>
         alloc,
         "ticks",
         "N",
-        "Limit on the ticks of each thread (statements, loop iterations, calls), 0 to 4294967295 [default: 4294967295]",
+        "Limit on the ticks of each thread (statements, loop iterations, calls), 0 to 4294967295 [default: no limit]",
     );
     with(command, ticks)
 }

@@ -52,7 +52,7 @@ pub enum Request {
 }
 
 /// The claim that a file has what the source prints, run in the order that another file lists: 1 to 64 threads, each
-/// with so many ticks.
+/// with so many ticks, or with enough of them if none are given.
 #[derive(Debug, Drop)]
 pub struct Claim {
     pub threads: u32,
@@ -60,7 +60,7 @@ pub struct Claim {
     pub order: String,
     /// The file of the report.
     pub report: String,
-    pub ticks: u32,
+    pub ticks: Option<u32>,
 }
 
 /// The other side of a comparison of the outcomes of 1 to 64 threads of a program. Those of each program are found over

@@ -612,20 +612,20 @@ fn claims() -> &'static [Row] {
     static ROWS: [Row; 4] = [
         (
             "txc|certify|a.c|--order-file|s|--report|r",
-            br#"Ok(Certify { file: "a.c", verbose: false, format: Plain, claim: Claim { threads: 1, order: "s", report: "r", ticks: 4294967295 } })"#,
+            br#"Ok(Certify { file: "a.c", verbose: false, format: Plain, claim: Claim { threads: 1, order: "s", report: "r", ticks: None } })"#,
         ),
         (
             "txc|certify|--report=r|--order-file=s|--threads=64|--ticks=0|a.c|--verbose|--format=short",
-            br#"Ok(Certify { file: "a.c", verbose: true, format: Short, claim: Claim { threads: 64, order: "s", report: "r", ticks: 0 } })"#,
+            br#"Ok(Certify { file: "a.c", verbose: true, format: Short, claim: Claim { threads: 64, order: "s", report: "r", ticks: Some(0) } })"#,
         ),
         // one of the files is standard input
         (
             "txc|certify|-|--order-file=s|--report=r",
-            br#"Ok(Certify { file: "-", verbose: false, format: Plain, claim: Claim { threads: 1, order: "s", report: "r", ticks: 4294967295 } })"#,
+            br#"Ok(Certify { file: "-", verbose: false, format: Plain, claim: Claim { threads: 1, order: "s", report: "r", ticks: None } })"#,
         ),
         (
             "txc|certify|a.c|--order-file=s|--report=-",
-            br#"Ok(Certify { file: "a.c", verbose: false, format: Plain, claim: Claim { threads: 1, order: "s", report: "-", ticks: 4294967295 } })"#,
+            br#"Ok(Certify { file: "a.c", verbose: false, format: Plain, claim: Claim { threads: 1, order: "s", report: "-", ticks: None } })"#,
         ),
     ];
     &ROWS
@@ -837,7 +837,7 @@ fn told_ranges() -> &'static [(&'static str, &'static str)] {
         ("txc|outcomes|--help", "0 to 4294967295 [default: 1024]"),
         (
             "txc|certify|--help",
-            "0 to 4294967295 [default: 4294967295]",
+            "0 to 4294967295 [default: no limit]",
         ),
     ];
     &ROWS

@@ -1,5 +1,5 @@
 -- Verdicts on reports.
-use Rattle.std.proofs.Common.{◌≡◌, ◌≢◌, inl, ℕ, List, [], ◌∷◌, Option, None, Some, ◌∙◌, ap, ap₂, refl, sym, subst}
+use Rattle.std.proofs.Common.{◌≡◌, ◌≢◌, inl, ℕ, ◌+◌, false, List, [], ◌∷◌, Option, None, Some, ◌∙◌, ap, ap₂, refl, sym, subst, arith}
 use Rattle.lex.specs.Pieces.{IsLexed}
 use Rattle.lex.specs.Tokens.{Tok}
 use Rattle.syntax.specs.Grammar.{ParsedSource, Spells}
@@ -12,7 +12,11 @@ use Rattle.command.specs.Asked.{AreThreads, IsListedOrder, words_listed}
 use Rattle.command.specs.declared.request.Claim.{Claim}
 use Rattle.serving.specs.Certified.{CertifiesReport, IsPrintedInOrder, OneReportIsPrinted, SaysSo, ShowsDifference, WritesVerdict}
 use Rattle.serving.specs.Checks.{Accepts, IsSourceOf}
-use Rattle.serving.specs.Orders.{IsOrderOf, RunsInOrder}
+use Rattle.states.specs.Shown.{NoneIsSpent, told_in}
+use Rattle.states.proofs.Later.{ticks_add_nothing}
+use Rattle.serving.specs.Orders.{IsOrderWith, IsUnspentOrder, RunsInOrderWith}
+use Rattle.serving.specs.Reports.{has_spent}
+use Rattle.serving.proofs.ListedOutcomes.{none_spent}
 use Rattle.serving.specs.Refusals.{IsRefused}
 use Rattle.serving.specs.Shows.{order_shown}
 use Rattle.serving.specs.Verdicts.{IsEither, Tells}
@@ -49,18 +53,14 @@ nothing_claimed claim (Some bytes) report text old new same =
     let due = IsPrintedInOrder claim bytes text in
     known_all (λ found. WritesPart (IsEither (SaysSo due found) (ShowsDifference due found)) old new) (λ found. inl same) report
 
--- so many ticks
-pub due_with : (p : Program) (count ticks given : ℕ) (order due taken : List ℕ) → ticks ≡ given → taken ≡ due → IsReportOf (IsOrderOf p count ticks order) due → IsReportOf (IsOrderOf p count given order) taken
-due_with p count ticks given order due taken same is so = subst (IsReportOf (IsOrderOf p count given order)) (sym is) (subst (λ n. IsReportOf (IsOrderOf p count n order) due) same so)
-
 -- the report of an accepted program in an order is that of its text
-printed_in_order : (claim : Claim) (bytes text order : List ℕ) (source : ParsedSource) → IsListedOrder bytes order → IsSourceOf text source → ∥ IsAccepted source.program ∥₁ → (written : List ℕ) → IsReportOf (IsOrderOf source.program claim.threads claim.ticks order) written → IsPrintedInOrder claim bytes text written
+printed_in_order : (claim : Claim) (bytes text order : List ℕ) (source : ParsedSource) → IsListedOrder bytes order → IsSourceOf text source → ∥ IsAccepted source.program ∥₁ → (written : List ℕ) → IsReportOf (IsOrderWith source.program claim.threads claim.ticks order) written → IsPrintedInOrder claim bytes text written
 printed_in_order claim bytes text order source lists spelled accepted written is =
-    let run : RunsInOrder claim.threads claim.ticks order text is.0 = record { source = source; spelled = spelled; run = is.1 } in
+    let run : RunsInOrderWith claim.threads claim.ticks order text is.0 = record { source = source; spelled = spelled; run = is.1 } in
     let accepts : Accepts text = record { source = source; spelled = spelled; accepted = accepted } in
     (order, lists, (is.0, (run, accepts), is.2))
 
-pub claim_served : (claim : Claim) (listed report : Option (List ℕ)) (text order : List ℕ) (source : ParsedSource) (status : ℕ) (old new : Option (List ℕ)) → IfSome listed (λ bytes. IsListedOrder bytes order) → IsSourceOf text source → ∥ IsAccepted source.program ∥₁ → ServesVerdict (IsReportOf (IsOrderOf source.program claim.threads claim.ticks order)) ⊥ report status old new → ServesClaim claim listed report (Some text) status old new
+pub claim_served : (claim : Claim) (listed report : Option (List ℕ)) (text order : List ℕ) (source : ParsedSource) (status : ℕ) (old new : Option (List ℕ)) → IfSome listed (λ bytes. IsListedOrder bytes order) → IsSourceOf text source → ∥ IsAccepted source.program ∥₁ → ServesVerdict (IsReportOf (IsOrderWith source.program claim.threads claim.ticks order)) ⊥ report status old new → ServesClaim claim listed report (Some text) status old new
 claim_served claim None report text order source status old new lists spelled accepted s = record {
   within = s.within;
   answers = tt;
@@ -69,9 +69,23 @@ claim_served claim None report text order source status old new lists spelled ac
   untouched = s.untouched;
 }
 claim_served claim (Some bytes) report text order source status old new lists spelled accepted s =
-    due_served (IsReportOf (IsOrderOf source.program claim.threads claim.ticks order)) (IsPrintedInOrder claim bytes text) (printed_in_order claim bytes text order source lists spelled accepted) (IsRefused text) report status old new s
+    due_served (IsReportOf (IsOrderWith source.program claim.threads claim.ticks order)) (IsPrintedInOrder claim bytes text) (printed_in_order claim bytes text order source lists spelled accepted) (IsRefused text) report status old new s
 
 -- ---- the report of an order
+
+-- an order that spends no thread leaves the same with any more ticks
+spends_none : (p : Program) (count : ℕ) (order : List ℕ) (shown : Printed) (r : IsUnspentOrder p count order shown) → NoneIsSpent (told_in p count r.ticks order)
+spends_none p count order shown r = none_spent p count r.ticks order (subst (λ (x : Printed). has_spent x ≡ false) r.run.shows r.unspent)
+
+one_shown : (p : Program) (count : ℕ) (ticks : Option ℕ) (order : List ℕ) (a b : Printed) → IsOrderWith p count ticks order a → IsOrderWith p count ticks order b → a ≡ b
+one_shown p count (Some n) order a b r s = r.shows ∙ sym s.shows
+one_shown p count None order a b r s =
+    let one = ticks_add_nothing p count r.ticks s.ticks order r.run.named (spends_none p count order a r) in
+    let other = ticks_add_nothing p count s.ticks r.ticks order s.run.named (spends_none p count order b s) in
+    let sum : r.ticks + s.ticks ≡ s.ticks + r.ticks = omega arith in
+    r.run.shows
+    ∙ ap (order_shown p) (sym one ∙ ap (λ n. in_order (thread p) (initial_memory p) count n order) sum ∙ other)
+    ∙ sym s.run.shows
 
 -- words are the numbers of one order
 one_order : (words : List (List ℕ)) (a b : List ℕ) → AreThreads words a → AreThreads words b → a ≡ b
@@ -87,11 +101,10 @@ module _ (one_tokens : (text : List ℕ) (ts us : List Tok) → IsLexed text ts 
   one_source text a b is is' =
       one_tree is.tokens a b is.spelled (subst (Spells b) (one_tokens text is'.tokens is.tokens is'.lexed is.lexed) is'.spelled)
 
-  one_run : (count ticks : ℕ) (order other text : List ℕ) (a b : Printed) → order ≡ other → RunsInOrder count ticks order text a → RunsInOrder count ticks other text b → a ≡ b
+  one_run : (count : ℕ) (ticks : Option ℕ) (order other text : List ℕ) (a b : Printed) → order ≡ other → RunsInOrderWith count ticks order text a → RunsInOrderWith count ticks other text b → a ≡ b
   one_run count ticks order other text a b same r s =
-      r.run.shows
-      ∙ ap₂ (λ (source : ParsedSource) (o : List ℕ). order_shown source.program (in_order (thread source.program) (initial_memory source.program) count ticks o)) (one_source text r.source s.source r.spelled s.spelled) same
-      ∙ sym s.run.shows
+      one_shown s.source.program count ticks other a b
+      (subst (λ (x : ParsedSource). IsOrderWith x.program count ticks other a) (one_source text r.source s.source r.spelled s.spelled) (subst (λ o. IsOrderWith r.source.program count ticks o a) same r.run)) s.run
 
   pub one_report : OneReportIsPrinted
   one_report claim listed text one other p q =

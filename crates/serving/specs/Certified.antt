@@ -4,7 +4,7 @@ use Rattle.command.specs.Asked.{IsListedOrder}
 use Rattle.command.specs.declared.request.Claim.{Claim}
 use Rattle.differences.specs.Texts.{IsFirstDifference, difference_text}
 use Rattle.serving.specs.Checks.{Accepts}
-use Rattle.serving.specs.Orders.{RunsInOrder}
+use Rattle.serving.specs.Orders.{RunsInOrderWith}
 use Rattle.serving.specs.Verdicts.{IsEither, Tells}
 use Rattle.serving.specs.Written.{IsReportOf, WritesPart}
 
@@ -18,10 +18,10 @@ module _ (IsDue : List ℕ → Type 0) (found : List ℕ) where
   ShowsDifference written = (due : List ℕ) × (at : ℕ) × IsDue due × IsFirstDifference due found at
       × (written ≡ difference_text (codes "source") (codes "report") due found at)
 
--- what the source prints in the order that a text lists
+-- what the source prints in the order that a text lists, with the ticks that are given or as many as it takes
 abbrev pub IsPrintedInOrder : Claim → (listed text : List ℕ) → (written : List ℕ) → Type 0
 IsPrintedInOrder claim listed text written = (order : List ℕ) × IsListedOrder listed order
-    × IsReportOf (λ shown. RunsInOrder claim.threads claim.ticks order text shown × Accepts text) written
+    × IsReportOf (λ shown. RunsInOrderWith claim.threads claim.ticks order text shown × Accepts text) written
 
 -- the source prints one report in the order that a text lists
 abbrev pub OneReportIsPrinted : Type 0

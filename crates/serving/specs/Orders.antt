@@ -1,5 +1,5 @@
 -- Running the threads of a source's text in an order, one whole transaction after another.
-use Rattle.std.specs.Prelude.{◌≡◌, ℕ, List, map, Some, false}
+use Rattle.std.specs.Prelude.{◌≡◌, ℕ, List, Option, map, None, Some, false}
 use Rattle.std.specs.List.{slice_get}
 use Rattle.syntax.specs.Tree.{Program}
 use Rattle.syntax.specs.Names.{globals, initial_memory}
@@ -11,7 +11,7 @@ use Rattle.syntax.specs.Grammar.{ParsedSource}
 use Rattle.meaning.specs.InOrder.{NamesThreads}
 use Rattle.report.specs.Printed.{ThreadShown, Printed}
 use Rattle.serving.specs.Checks.{IsSourceOf}
-use Rattle.serving.specs.Reports.{is_stopped}
+use Rattle.serving.specs.Reports.{has_spent, is_stopped}
 use Rattle.serving.specs.Shows.{order_shown, shown_globals, thread_shown}
 
 -- what a report shows of so many threads in an order, each with so many ticks
@@ -19,11 +19,27 @@ pub record IsOrderOf (p : Program) (count ticks : ℕ) (order : List ℕ) (shown
   pub named : NamesThreads count order
   pub shows : shown ≡ order_shown p (in_order (thread p) (initial_memory p) count ticks order)
 
+-- likewise, each with some number of ticks that spends none: with more of them the report is the same
+pub record IsUnspentOrder (p : Program) (count : ℕ) (order : List ℕ) (shown : Printed) : Type 0 where
+  pub ticks : ℕ
+  pub run : IsOrderOf p count ticks order shown
+  pub unspent : has_spent shown ≡ false
+
+-- likewise, each with so many ticks, or with as many as it takes if none are given
+abbrev pub IsOrderWith : Program → (count : ℕ) → (ticks : Option ℕ) → (order : List ℕ) → Printed → Type 0
+IsOrderWith p count (Some ticks) order shown = IsOrderOf p count ticks order shown
+IsOrderWith p count None order shown = IsUnspentOrder p count order shown
+
 -- the text spells a program, and this is what the report of its threads in this order shows
 pub record RunsInOrder (count ticks : ℕ) (order text : List ℕ) (shown : Printed) : Type 0 where
   pub source : ParsedSource
   pub spelled : IsSourceOf text source
   pub run : IsOrderOf source.program count ticks order shown
+
+pub record RunsInOrderWith (count : ℕ) (ticks : Option ℕ) (order text : List ℕ) (shown : Printed) : Type 0 where
+  pub source : ParsedSource
+  pub spelled : IsSourceOf text source
+  pub run : IsOrderWith source.program count ticks order shown
 
 -- the text spells a program, and this is what the report of its threads shows in some order, each with some number of
 -- ticks

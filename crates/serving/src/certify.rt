@@ -3,23 +3,26 @@
 ghost use Rattle.std.specs.Prelude.{◌≡◌, ◌⊎◌, IfErr, IfOk, IfSome, string_bytes, Some};
 ghost use Rattle.command.specs.Asked.{IsListedOrder};
 ghost use Rattle.syntax.specs.Views.{program_of};
-ghost use Rattle.serving.specs.Orders.{IsOrderOf};
+ghost use Rattle.report.specs.Views.{printed_of};
+ghost use Rattle.serving.specs.Orders.{IsOrderOf, IsOrderWith, IsUnspentOrder};
 ghost use Rattle.serving.specs.Written.{IsReportOf};
 ghost use Rattle.serving.specs.inner.Serves.{ServesClaim, ServesVerdict};
 
+use crate::by_code::order_by_code;
 use crate::files::{Files, text_of};
-use crate::print::{REFUTED, print, print_text};
+use crate::print::{REFUTED, has_spent, print, print_text};
 use crate::program::read_accepted;
 use crate::source::order_accepted;
 use crate::tell::{Teller, cannot_write, out_of_memory, unusable};
 use command::{Claim, listed_order};
 use differences::difference;
 use meaning::MeaningFault;
-use report::report_text;
+use report::{Printed, report_text};
 use separation::Accepted;
 use std::alloc::Allocator;
 use std::io;
 use std::io::{Read, Write};
+use walks::MOST_STEPS;
 
 /// Opens what a claim names, the source first, then the order and the report, and says whether it is so.
 pub(crate) fn open_claim<A: Allocator + Copy, F: Files, W: Write, E: Write>(
@@ -146,11 +149,10 @@ fn certify_order<A: Allocator + Copy, Q: Read + Drop, W: Write, E: Write>(
     out: &mut W,
     teller: &mut Teller<'_, E>,
 ) -> u8
-    ensures { ServesVerdict (IsReportOf (IsOrderOf (program_of accepted.now.safe.typed.unit) claim.now.threads
+    ensures { ServesVerdict (IsReportOf (IsOrderWith (program_of accepted.now.safe.typed.unit) claim.now.threads
         claim.now.ticks order.now)) ⊥ (Q.remaining report) result (W.contents out.old) (W.contents out.new) }
 {
-    let ticks = u64::from(claim.ticks);
-    match due_report(alloc, accepted, claim.threads, order, ticks) {
+    match due_report(alloc, accepted, claim.threads, order, claim.ticks) {
         Ok(due) => certify_due(
             alloc,
             due.as_slice(),
@@ -159,7 +161,111 @@ fn certify_order<A: Allocator + Copy, Q: Read + Drop, W: Write, E: Write>(
             out,
             teller,
         ),
-        Err(fault) => teller.refuse_order(fault),
+        Err(DueFault::Order(fault)) => teller.refuse_order(fault),
+        Err(DueFault::Long) => too_long(teller.err),
+        Err(DueFault::Spent) => spent(teller.err),
+    }
+}
+
+/// Why there is no report of an order.
+pub(crate) enum DueFault {
+    Order(MeaningFault),
+    /// A thread executes too many instructions in one turn: it may never rest.
+    Long,
+    /// A thread takes more ticks than the source is given: it may never rest.
+    Spent,
+}
+
+/// Says that a thread executes too many instructions in one turn of an order.
+fn too_long<E: Write>(err: &mut E) -> u8
+    ensures { result ≡ 4 }
+{
+    let _ = writeln!(
+        err,
+        "txc: a thread executes more than {MOST_STEPS} instructions in one turn"
+    );
+    4
+}
+
+/// Says that a thread takes too many ticks in an order.
+fn spent<E: Write>(err: &mut E) -> u8
+    ensures { result ≡ 4 }
+{
+    let _ = writeln!(err, "txc: a thread takes more than {} ticks", u32::MAX);
+    4
+}
+
+/// What the report of an accepted program in an order shows, with as many ticks as the threads take: by its code, or by
+/// the source if the code does not tell.
+fn printed_unspent<A: Allocator + Copy>(
+    alloc: A,
+    accepted: &Accepted<A>,
+    threads: u32,
+    order: &[u32],
+) -> Result<Printed<A>, DueFault>
+    ensures { IfOk result (λ r.
+        IsUnspentOrder (program_of accepted.now.safe.typed.unit) threads order.now (printed_of r)) }
+{
+    match order_by_code(alloc, accepted, threads, order) {
+        Ok(Some(printed)) => Ok(printed),
+        Ok(None) => unspent_by_source(alloc, accepted, threads, order),
+        Err(fault) => Err(fault),
+    }
+}
+
+/// What the report of an accepted program in an order shows, with as many ticks as the threads take, by the source.
+fn unspent_by_source<A: Allocator + Copy>(
+    alloc: A,
+    accepted: &Accepted<A>,
+    threads: u32,
+    order: &[u32],
+) -> Result<Printed<A>, DueFault>
+    ensures { IfOk result (λ r.
+        IsUnspentOrder (program_of accepted.now.safe.typed.unit) threads order.now (printed_of r)) }
+{
+    match printed_in(alloc, accepted, threads, order, u64::from(u32::MAX)) {
+        Ok(printed) => {
+            if has_spent(printed.threads.as_slice()) {
+                return Err(DueFault::Spent);
+            }
+            Ok(printed)
+        }
+        Err(fault) => Err(fault),
+    }
+}
+
+/// What the report of an accepted program in an order shows, with so many ticks.
+fn printed_in<A: Allocator + Copy>(
+    alloc: A,
+    accepted: &Accepted<A>,
+    threads: u32,
+    order: &[u32],
+    ticks: u64,
+) -> Result<Printed<A>, DueFault>
+    ensures { IfOk result
+        (λ r. IsOrderOf (program_of accepted.now.safe.typed.unit) threads ticks order.now (printed_of r)) }
+{
+    match order_accepted(alloc, accepted, threads, order, ticks) {
+        Ok((printed, _stood)) => Ok(printed),
+        Err(fault) => Err(DueFault::Order(fault)),
+    }
+}
+
+/// What the report of an accepted program in an order shows, with the ticks that are given, or as many as the threads
+/// take.
+fn printed_with<A: Allocator + Copy>(
+    alloc: A,
+    accepted: &Accepted<A>,
+    threads: u32,
+    order: &[u32],
+    ticks: Option<u32>,
+) -> Result<Printed<A>, DueFault>
+    ensures { IfOk result
+        (λ r. IsOrderWith (program_of accepted.now.safe.typed.unit) threads ticks order.now (printed_of r)) }
+{
+    match ticks {
+        Some(ticks) => printed_in(alloc, accepted, threads, order, u64::from(ticks)),
+        None => printed_unspent(alloc, accepted, threads, order),
     }
 }
 
@@ -169,15 +275,15 @@ fn due_report<A: Allocator + Copy>(
     accepted: &Accepted<A>,
     threads: u32,
     order: &[u32],
-    ticks: u64,
-) -> Result<Vec<u8, A>, MeaningFault>
+    ticks: Option<u32>,
+) -> Result<Vec<u8, A>, DueFault>
     ensures { IfOk result
-        (λ v. IsReportOf (IsOrderOf (program_of accepted.now.safe.typed.unit) threads ticks order.now) v.items) }
+        (λ v. IsReportOf (IsOrderWith (program_of accepted.now.safe.typed.unit) threads ticks order.now) v.items) }
 {
-    let (printed, _stood) = order_accepted(alloc, accepted, threads, order, ticks)?;
+    let printed = printed_with(alloc, accepted, threads, order, ticks)?;
     match report_text(alloc, &printed) {
         Ok(due) => Ok(due),
-        Err(_) => Err(MeaningFault::OutOfMemory),
+        Err(_) => Err(DueFault::Order(MeaningFault::OutOfMemory)),
     }
 }
 

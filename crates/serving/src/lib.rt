@@ -7,6 +7,7 @@ mod answered;
 mod ask;
 mod askable;
 mod at_rest;
+mod by_code;
 mod certify;
 mod check;
 mod compared;
