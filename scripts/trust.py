@@ -36,14 +36,14 @@ PROMISES = (
     ("`txc source`", "PrintsReport RunsInOrder"),
     ("`txc run`, by the source alone", "PrintsReport RunsInSomeOrder"),
     ("`txc run`, all", "PrintsReport RunsInSomeOrder RunsConcurrently"),
-    ("`txc outcomes`", "PrintsOutcomes"),
+    ("`txc outcomes`", "SaysOfRange PrintsOutcomes"),
     (
         "the list is complete, and `run` prints nothing else",
-        "PrintsOutcomes PrintsReport RunsInSomeOrder OrdersAreListed",
+        "SaysOfRange PrintsOutcomes PrintsReport RunsInSomeOrder OrdersAreListed",
     ),
     (
         "as above, and the machine can produce each outcome",
-        "PrintsOutcomes PrintsReport RunsInSomeOrder OrdersAreListed OutcomesAreDone",
+        "SaysOfRange PrintsOutcomes PrintsReport RunsInSomeOrder OrdersAreListed OutcomesAreDone",
     ),
     ("`txc outcomes --always`, `--final`", "AnswersQuestions"),
     ("`txc outcomes --refines`, `--expect`", "ComparesOutcomes"),

@@ -8,5 +8,7 @@ mod Reading
 mod Commands
 -- words are refused because something is so
 mod Refusals
+-- numbers of threads that are given
+mod Ranges
 -- what is given for arguments makes no task
 mod Tasks

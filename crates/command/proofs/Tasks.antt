@@ -5,7 +5,7 @@ use Rattle.clap.specs.Words.{Row, Text, first_of}
 use Rattle.command.specs.declared.request.Task.TheVariants.{Check, Listing, Run, Replay, Timeline, Picture, PrintOrder, PrintSchedule, Source, Outcomes}
 use Rattle.command.specs.declared.request.Steps.{Steps}
 use Rattle.command.specs.declared.request.Steps.TheVariants.{Order, Schedule, Seed}
-use Rattle.command.specs.Asked.{AreCounted, AreSteps, IsFirstDrawn, IsFlagged, IsOrder, IsOrderGiven}
+use Rattle.command.specs.Asked.{AreCounted, AreSteps, AreThreadsExplored, IsFirstDrawn, IsFlagged, IsOrder, IsOrderGiven}
 use Rattle.command.specs.inner.Refusals.{AreNoTask}
 
 -- no steps, no replay
@@ -52,6 +52,19 @@ no_source given none (PrintSchedule threads seed count) is = let e : 115 ≡ 114
 no_source given none (PrintOrder threads order) is = let e : 115 ≡ 114 = ap (λ l. slice_index l 0) is.0 in absurd (omega (arith, e))
 no_source given none (Source threads order ticks) is = none order.items is.2
 no_source given none (Outcomes threads steps limit memory) is = let e : 115 ≡ 111 = ap (λ l. slice_index l 0) is.0 in absurd (omega (arith, e))
+
+-- no number of threads, no outcomes
+pub no_outcomes : (given : List Row) → ((first last : ℕ) → AreThreadsExplored given first last → ⊥) → AreNoTask (codes "outcomes") given
+no_outcomes given none (Check told) is = let e : 111 ≡ 99 = ap (λ l. slice_index l 0) is.0 in absurd (omega (arith, e))
+no_outcomes given none Listing is = let e : 111 ≡ 108 = ap (λ l. slice_index l 0) is in absurd (omega (arith, e))
+no_outcomes given none (Run threads budget counts memory) is = let e : 111 ≡ 114 = ap (λ l. slice_index l 0) is.0 in absurd (omega (arith, e))
+no_outcomes given none (Replay threads steps) is = let e : 111 ≡ 114 = ap (λ l. slice_index l 0) is.0 in absurd (omega (arith, e))
+no_outcomes given none (Timeline threads steps) is = let e : 111 ≡ 114 = ap (λ l. slice_index l 0) is.0 in absurd (omega (arith, e))
+no_outcomes given none (Picture threads from steps) is = let e : 111 ≡ 114 = ap (λ l. slice_index l 0) is.0 in absurd (omega (arith, e))
+no_outcomes given none (PrintSchedule threads seed count) is = let e : 111 ≡ 114 = ap (λ l. slice_index l 0) is.0 in absurd (omega (arith, e))
+no_outcomes given none (PrintOrder threads order) is = let e : 111 ≡ 114 = ap (λ l. slice_index l 0) is.0 in absurd (omega (arith, e))
+no_outcomes given none (Source threads order ticks) is = let e : 111 ≡ 115 = ap (λ l. slice_index l 0) is.0 in absurd (omega (arith, e))
+no_outcomes given none (Outcomes threads steps limit memory) is = none threads.first threads.last is.1
 
 -- a text that lists no threads is no order
 pub no_order : (given : List Row) (taken text : Text) → ((order : List ℕ) → IsOrder taken order → ⊥) → taken ≡ text → first_of (codes "order") given ≡ Some text → (order : List ℕ) → IsOrderGiven given order → ⊥

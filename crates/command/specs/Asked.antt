@@ -123,9 +123,26 @@ AreSteps given (Order order) = AreOrdered given order.items
 abbrev pub AreThreadsGiven : List Row → ℕ → Type 0
 AreThreadsGiven given n = IsNumberInRange given (codes "threads") 1 1 64 n
 
--- 1 to 64 threads whose orders are explored; one thread has a single order, so the default is two
-abbrev pub AreThreadsExplored : List Row → ℕ → Type 0
-AreThreadsExplored given n = IsNumberInRange given (codes "threads") 2 1 64 n
+-- pieces between dots that are a number, nothing and a number
+abbrev pub IsRange : List Text → (first last : ℕ) → Type 0
+IsRange (a ∷ [] ∷ b ∷ []) first last = IsDecimal a first × IsDecimal b last
+IsRange _ first last = ⊥
+
+-- numbers of threads from the first to the last, as 2..4, each of them 1 to 64
+pub record AreThreadsInTurn (given : List Row) (first last : ℕ) : Type 0 where
+  pub no_number : IsSomeAnd (one_of (codes "threads") given) IsNoNumber
+  pub text : Text
+  pub said : first_of (codes "threads") given ≡ Some text
+  pub range : IsRange (slice_split (λ b. b == 46) text) first last
+  pub not_below : 1 ≤ first
+  pub in_turn : first ≤ last
+  pub not_above : last ≤ 64
+
+-- numbers of threads whose orders are explored: a single number, or several; one thread has a single order, so the
+-- default is two
+abbrev pub AreThreadsExplored : List Row → (first last : ℕ) → Type 0
+AreThreadsExplored given first last =
+    (IsNumberInRange given (codes "threads") 2 1 64 first × (last ≡ first)) ⊎ AreThreadsInTurn given first last
 
 -- a flag
 abbrev pub IsFlagged : List Row → Text → Type 0
@@ -176,14 +193,15 @@ IsTask name given (PrintOrder threads order) = (name ≡ codes "replay") × AreT
 IsTask name given (Source threads order ticks) = (name ≡ codes "source") × AreThreadsGiven given threads
     × IsOrderGiven given order.items
     × IsNumberInRange given (codes "ticks") 100000 0 1000000 ticks
-IsTask name given (Outcomes threads steps limit memory) = (name ≡ codes "outcomes") × AreThreadsExplored given threads
+IsTask name given (Outcomes threads steps limit memory) = (name ≡ codes "outcomes")
+    × AreThreadsExplored given threads.first threads.last
     × IsNumberInRange given (codes "steps") 1000000 0 4294967295 steps
     × IsNumberInRange given (codes "limit") 1000000 0 4294967295 limit
     × IsNumberInRange given (codes "memory") 1024 0 4294967295 memory × AreUncompared given × (are_asked given ≡ false)
 
 -- the properties to check: functions that must hold in every state, and those that must hold in every outcome
 pub record AreQuestions (given : List Row) (questions : Questions) : Type 0 where
-  pub threads : AreThreadsExplored given questions.threads
+  pub threads : AreThreadsExplored given questions.threads.first questions.threads.last
   pub steps : IsNumberInRange given (codes "steps") 1000000 0 4294967295 questions.steps
   pub limit : IsNumberInRange given (codes "limit") 1000000 0 4294967295 questions.limit
   pub memory : IsNumberInRange given (codes "memory") 1024 0 4294967295 questions.memory
@@ -216,13 +234,19 @@ abbrev pub IsAgainst : List Row → Against → Type 0
 IsAgainst given (Refined file) = IsGivenAlone given (codes "refines") (codes "expect") (string_bytes file)
 IsAgainst given (Expected file) = IsGivenAlone given (codes "expect") (codes "refines") (string_bytes file)
 
+-- a list is of one number of threads
+abbrev pub IsListedFor : Against → (first last : ℕ) → Type 0
+IsListedFor (Refined file) first last = Unit {0}
+IsListedFor (Expected file) first last = last ≡ first
+
 -- how outcomes are compared
 pub record IsComparison (given : List Row) (comparison : Comparison) : Type 0 where
-  pub threads : AreThreadsExplored given comparison.threads
+  pub threads : AreThreadsExplored given comparison.threads.first comparison.threads.last
   pub steps : IsNumberInRange given (codes "steps") 1000000 0 4294967295 comparison.steps
   pub limit : IsNumberInRange given (codes "limit") 1000000 0 4294967295 comparison.limit
   pub memory : IsNumberInRange given (codes "memory") 1024 0 4294967295 comparison.memory
   pub against : IsAgainst given comparison.against
+  pub listed : IsListedFor comparison.against comparison.threads.first comparison.threads.last
 
 -- how faults are reported, by the value of `--format`
 abbrev pub IsFormat : Option Text → Format → Type 0

@@ -2,15 +2,16 @@
 
 ghost use Rattle.std.specs.Prelude.{◌≡◌, IfOk, IfErr, None, codes, false, string_bytes, true};
 ghost use Rattle.clap.specs.Words.{Text, first_of, found_of, rows_of};
-ghost use Rattle.command.specs.Asked.{AreUncompared, IsAgainst, IsComparison, IsGivenAlone};
+ghost use Rattle.command.specs.Asked.{AreUncompared, IsAgainst, IsComparison, IsGivenAlone, IsListedFor};
 ghost use Rattle.command.specs.declared.request.Against.{Against};
 ghost use Rattle.command.specs.declared.request.Comparison.{Comparison};
 ghost use Rattle.command.specs.inner.Refusals.{IsOwn};
 
 use crate::claim::file_given;
 use crate::given::{text_given, wrong};
-use crate::request::{Against, Comparison, UsageFault};
-use crate::task::{number, threads_explored};
+use crate::range::threads_explored;
+use crate::request::{Against, Comparison, ThreadRange, UsageFault};
+use crate::task::number;
 use clap::ArgMatches;
 use std::alloc::Global;
 
@@ -67,16 +68,35 @@ fn against(alloc: Global, given: &ArgMatches<'_>) -> Result<Against, UsageFault>
     }
 }
 
+/// Whether there is one number of threads where outcomes are compared with a list, which is of one.
+fn are_comparable(threads: ThreadRange, against: &Against) -> bool
+    ensures yes { result ≡ true → IsListedFor against.now threads.first threads.last }
+    ensures no { result ≡ false → IsListedFor against.now threads.first threads.last → ⊥ }
+{
+    match against {
+        Against::Refined { .. } => true,
+        Against::Expected { .. } => threads.last == threads.first,
+    }
+}
+
 /// How outcomes are compared, where they are.
 pub(crate) fn comparison(alloc: Global, given: &ArgMatches<'_>) -> Result<Comparison, UsageFault>
     ensures ok { IfOk result (IsComparison (rows_of (found_of given.now))) }
     ensures err { IfErr result (IsOwn ((c : Comparison) → IsComparison (rows_of (found_of given.now)) c → ⊥)) }
 {
+    let threads = threads_explored(alloc, given)?;
+    let steps = number(alloc, given, "steps", 1000000, 0, u32::MAX)?;
+    let limit = number(alloc, given, "limit", 1000000, 0, u32::MAX)?;
+    let memory = number(alloc, given, "memory", 1024, 0, u32::MAX)?;
+    let against = against(alloc, given)?;
+    if !are_comparable(threads, &against) {
+        return Err(wrong(alloc, "--expect wants one number of threads"));
+    }
     Ok(Comparison {
-        threads: threads_explored(alloc, given)?,
-        steps: number(alloc, given, "steps", 1000000, 0, u32::MAX)?,
-        limit: number(alloc, given, "limit", 1000000, 0, u32::MAX)?,
-        memory: number(alloc, given, "memory", 1024, 0, u32::MAX)?,
-        against: against(alloc, given)?,
+        threads,
+        steps,
+        limit,
+        memory,
+        against,
     })
 }

@@ -8,6 +8,7 @@ mod line;
 mod listed;
 mod order;
 mod questions;
+mod range;
 mod read;
 mod request;
 mod task;
@@ -15,5 +16,6 @@ mod task;
 pub use listed::listed_order;
 pub use read::command;
 pub use request::{
-    Against, CheckOptions, Claim, Comparison, Format, Questions, Request, Steps, Task, UsageFault,
+    Against, CheckOptions, Claim, Comparison, Format, Questions, Request, Steps, Task, ThreadRange,
+    UsageFault,
 };

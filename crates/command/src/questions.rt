@@ -7,8 +7,9 @@ ghost use Rattle.command.specs.declared.request.Questions.{Questions};
 ghost use Rattle.command.specs.inner.Refusals.{IsOwn};
 
 use crate::given::{flag_given, text_given};
+use crate::range::threads_explored;
 use crate::request::{Questions, UsageFault};
-use crate::task::{number, threads_explored};
+use crate::task::number;
 use clap::ArgMatches;
 use std::alloc::{AllocError, Global};
 

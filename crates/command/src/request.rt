@@ -51,6 +51,13 @@ pub enum Request {
     },
 }
 
+/// The numbers of threads, 1 to 64, whose orders are explored one after another, from the first to the last.
+#[derive(Clone, Copy, Debug)]
+pub struct ThreadRange {
+    pub first: u32,
+    pub last: u32,
+}
+
 /// The claim that a file has what the source prints, run in the order that another file lists: 1 to 64 threads, each
 /// with so many ticks, or with enough of them if none are given.
 #[derive(Debug, Drop)]
@@ -67,7 +74,7 @@ pub struct Claim {
 /// at most so many states, and in a turn a thread makes at most so many steps of its code.
 #[derive(Debug, Drop)]
 pub struct Comparison {
-    pub threads: u32,
+    pub threads: ThreadRange,
     pub steps: u32,
     pub limit: u32,
     /// How many MB states and list take at most.
@@ -80,7 +87,7 @@ pub struct Comparison {
 pub enum Against {
     /// The outcomes of the program in this file: each is to be one of these.
     Refined { file: String },
-    /// The list in this file: the outcomes are to be the same.
+    /// The list in this file: the outcomes are to be the same. A list is of one number of threads.
     Expected { file: String },
 }
 
@@ -88,7 +95,7 @@ pub enum Against {
 /// thread makes at most so many steps of its code, and a function takes at most so many ticks.
 #[derive(Debug, Drop)]
 pub struct Questions {
-    pub threads: u32,
+    pub threads: ThreadRange,
     pub steps: u32,
     pub limit: u32,
     /// How many MB states and list take at most.
@@ -173,7 +180,7 @@ pub enum Task {
     /// Lists the outcomes of 1 to 64 threads in all orders, over at most so many states. In a turn a thread makes at
     /// most so many steps of its code, and states and list take about so many MB of memory.
     Outcomes {
-        threads: u32,
+        threads: ThreadRange,
         steps: u32,
         limit: u32,
         memory: u32,

@@ -2,7 +2,7 @@
 
 ghost use Rattle.std.specs.Prelude.{◌≡◌, ◌≤◌, ◌↔◌, ℕ, List, IfOk, IfErr, IsTrue, Some, None, codes, false, string_bytes};
 ghost use Rattle.clap.specs.Words.{first_of, found_of, rows_of};
-ghost use Rattle.command.specs.Asked.{AreCounted, AreScheduled, AreSteps, AreThreadsExplored, AreThreadsGiven};
+ghost use Rattle.command.specs.Asked.{AreCounted, AreScheduled, AreSteps, AreThreadsGiven};
 ghost use Rattle.command.specs.Asked.{AreUncompared, IsFirstDrawn, IsNotBoth, IsNumberInRange, IsOrderGiven, IsTask};
 ghost use Rattle.command.specs.Asked.{are_asked};
 ghost use Rattle.command.specs.declared.request.Steps.{Steps};
@@ -12,12 +12,13 @@ use crate::given::{
     flag_given, is_given, number_given, out_of_range, text_given, text_wanted, wrong,
 };
 use crate::order::order;
+use crate::range::threads_explored;
 use crate::request::{CheckOptions, Steps, Task, UsageFault};
 use clap::ArgMatches;
 use std::alloc::Global;
 
 /// The most threads.
-const MOST_THREADS: u32 = 64;
+pub(crate) const MOST_THREADS: u32 = 64;
 
 /// The most ticks.
 const MOST_TICKS: u32 = 1000000;
@@ -51,14 +52,6 @@ pub(crate) fn threads(alloc: Global, given: &ArgMatches<'_>) -> Result<u32, Usag
     ensures err { IfErr result (IsOwn ((n : ℕ) → AreThreadsGiven (rows_of (found_of given.now)) n → ⊥)) }
 {
     number(alloc, given, "threads", 1, 1, MOST_THREADS)
-}
-
-/// The number of threads whose orders are explored: one thread has a single order, so the default is two.
-pub(crate) fn threads_explored(alloc: Global, given: &ArgMatches<'_>) -> Result<u32, UsageFault>
-    ensures ok { IfOk result (AreThreadsExplored (rows_of (found_of given.now))) }
-    ensures err { IfErr result (IsOwn ((n : ℕ) → AreThreadsExplored (rows_of (found_of given.now)) n → ⊥)) }
-{
-    number(alloc, given, "threads", 2, 1, MOST_THREADS)
 }
 
 /// How many steps are asked for.

@@ -14,6 +14,8 @@ mod large;
 #[cfg(test)]
 mod levels;
 #[cfg(test)]
+mod ranges;
+#[cfg(test)]
 mod reads;
 #[cfg(test)]
 mod texts;

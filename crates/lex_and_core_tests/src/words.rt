@@ -18,7 +18,7 @@ fn request_of_line(alloc: Global, line: &str) -> Result<String, AllocError> {
 }
 
 /// Whether this is what a line asks.
-fn asks(alloc: Global, line: &str, wanted: &[u8]) -> bool {
+pub(crate) fn asks(alloc: Global, line: &str, wanted: &[u8]) -> bool {
     match request_of_line(alloc, line) {
         Ok(found) => found.as_bytes() == wanted,
         Err(_) => false,
@@ -26,10 +26,10 @@ fn asks(alloc: Global, line: &str, wanted: &[u8]) -> bool {
 }
 
 /// A line, and the bytes of what it asks.
-type Row = (&'static str, &'static [u8]);
+pub(crate) type Row = (&'static str, &'static [u8]);
 
 /// The first of these lines that asks something else than what stands beside it.
-fn ask_otherwise(alloc: Global, rows: &[Row]) -> Option<&'static str> {
+pub(crate) fn ask_otherwise(alloc: Global, rows: &[Row]) -> Option<&'static str> {
     for (line, wanted) in rows {
         if !asks(alloc, line, wanted) {
             return Some(*line);
@@ -160,15 +160,15 @@ fn outcomes() -> &'static [Row] {
     static ROWS: [Row; 10] = [
         (
             "txc|outcomes|a.c",
-            br#"Ok(Program { file: "a.c", verbose: false, format: Plain, task: Outcomes { threads: 2, steps: 1000000, limit: 1000000, memory: 1024 } })"#,
+            br#"Ok(Program { file: "a.c", verbose: false, format: Plain, task: Outcomes { threads: ThreadRange { first: 2, last: 2 }, steps: 1000000, limit: 1000000, memory: 1024 } })"#,
         ),
         (
             "txc|outcomes|--threads=64|--steps=4294967295|--limit=4294967295|a.c|--verbose",
-            br#"Ok(Program { file: "a.c", verbose: true, format: Plain, task: Outcomes { threads: 64, steps: 4294967295, limit: 4294967295, memory: 1024 } })"#,
+            br#"Ok(Program { file: "a.c", verbose: true, format: Plain, task: Outcomes { threads: ThreadRange { first: 64, last: 64 }, steps: 4294967295, limit: 4294967295, memory: 1024 } })"#,
         ),
         (
             "txc|outcomes|a.c|--limit|0|--steps|0|--threads|2",
-            br#"Ok(Program { file: "a.c", verbose: false, format: Plain, task: Outcomes { threads: 2, steps: 0, limit: 0, memory: 1024 } })"#,
+            br#"Ok(Program { file: "a.c", verbose: false, format: Plain, task: Outcomes { threads: ThreadRange { first: 2, last: 2 }, steps: 0, limit: 0, memory: 1024 } })"#,
         ),
         (
             "txc|outcomes|--threads=0|a.c",
@@ -193,11 +193,11 @@ fn outcomes() -> &'static [Row] {
         ),
         (
             "txc|outcomes|--memory|0|a.c",
-            br#"Ok(Program { file: "a.c", verbose: false, format: Plain, task: Outcomes { threads: 2, steps: 1000000, limit: 1000000, memory: 0 } })"#,
+            br#"Ok(Program { file: "a.c", verbose: false, format: Plain, task: Outcomes { threads: ThreadRange { first: 2, last: 2 }, steps: 1000000, limit: 1000000, memory: 0 } })"#,
         ),
         (
             "txc|outcomes|--limit=4294967295|--steps=7|a.c",
-            br#"Ok(Program { file: "a.c", verbose: false, format: Plain, task: Outcomes { threads: 2, steps: 7, limit: 4294967295, memory: 1024 } })"#,
+            br#"Ok(Program { file: "a.c", verbose: false, format: Plain, task: Outcomes { threads: ThreadRange { first: 2, last: 2 }, steps: 7, limit: 4294967295, memory: 1024 } })"#,
         ),
     ];
     &ROWS
@@ -641,20 +641,20 @@ fn comparisons() -> &'static [Row] {
     static ROWS: [Row; 10] = [
         (
             "txc|outcomes|a.c|--refines|b.c",
-            br#"Ok(Compare { file: "a.c", verbose: false, format: Plain, comparison: Comparison { threads: 2, steps: 1000000, limit: 1000000, memory: 1024, against: Refined { file: "b.c" } } })"#,
+            br#"Ok(Compare { file: "a.c", verbose: false, format: Plain, comparison: Comparison { threads: ThreadRange { first: 2, last: 2 }, steps: 1000000, limit: 1000000, memory: 1024, against: Refined { file: "b.c" } } })"#,
         ),
         (
             "txc|outcomes|--expect=l|--threads=64|--steps=0|--limit=4294967295|a.c|--verbose|--format=short",
-            br#"Ok(Compare { file: "a.c", verbose: true, format: Short, comparison: Comparison { threads: 64, steps: 0, limit: 4294967295, memory: 1024, against: Expected { file: "l" } } })"#,
+            br#"Ok(Compare { file: "a.c", verbose: true, format: Short, comparison: Comparison { threads: ThreadRange { first: 64, last: 64 }, steps: 0, limit: 4294967295, memory: 1024, against: Expected { file: "l" } } })"#,
         ),
         // one of the files is standard input
         (
             "txc|outcomes|-|--refines=b.c|--threads=2",
-            br#"Ok(Compare { file: "-", verbose: false, format: Plain, comparison: Comparison { threads: 2, steps: 1000000, limit: 1000000, memory: 1024, against: Refined { file: "b.c" } } })"#,
+            br#"Ok(Compare { file: "-", verbose: false, format: Plain, comparison: Comparison { threads: ThreadRange { first: 2, last: 2 }, steps: 1000000, limit: 1000000, memory: 1024, against: Refined { file: "b.c" } } })"#,
         ),
         (
             "txc|outcomes|a.c|--expect=-|--limit=7",
-            br#"Ok(Compare { file: "a.c", verbose: false, format: Plain, comparison: Comparison { threads: 2, steps: 1000000, limit: 7, memory: 1024, against: Expected { file: "-" } } })"#,
+            br#"Ok(Compare { file: "a.c", verbose: false, format: Plain, comparison: Comparison { threads: ThreadRange { first: 2, last: 2 }, steps: 1000000, limit: 7, memory: 1024, against: Expected { file: "-" } } })"#,
         ),
         // and not both
         (
@@ -695,23 +695,23 @@ fn questions() -> &'static [Row] {
     static ROWS: [Row; 7] = [
         (
             "txc|outcomes|a.c|--always|p",
-            br#"Ok(Ask { file: "a.c", verbose: false, format: Plain, questions: Questions { threads: 2, steps: 1000000, limit: 1000000, memory: 1024, always: Some("p"), last: None, keeps_going: false } })"#,
+            br#"Ok(Ask { file: "a.c", verbose: false, format: Plain, questions: Questions { threads: ThreadRange { first: 2, last: 2 }, steps: 1000000, limit: 1000000, memory: 1024, always: Some("p"), last: None, keeps_going: false } })"#,
         ),
         (
             "txc|outcomes|--final=p,q|--threads=3|--steps=0|--limit=7|a.c|--verbose|--format=json",
-            br#"Ok(Ask { file: "a.c", verbose: true, format: Json, questions: Questions { threads: 3, steps: 0, limit: 7, memory: 1024, always: None, last: Some("p,q"), keeps_going: false } })"#,
+            br#"Ok(Ask { file: "a.c", verbose: true, format: Json, questions: Questions { threads: ThreadRange { first: 3, last: 3 }, steps: 0, limit: 7, memory: 1024, always: None, last: Some("p,q"), keeps_going: false } })"#,
         ),
         (
             "txc|outcomes|a.c|--keep-going|--always=p",
-            br#"Ok(Ask { file: "a.c", verbose: false, format: Plain, questions: Questions { threads: 2, steps: 1000000, limit: 1000000, memory: 1024, always: Some("p"), last: None, keeps_going: true } })"#,
+            br#"Ok(Ask { file: "a.c", verbose: false, format: Plain, questions: Questions { threads: ThreadRange { first: 2, last: 2 }, steps: 1000000, limit: 1000000, memory: 1024, always: Some("p"), last: None, keeps_going: true } })"#,
         ),
         (
             "txc|outcomes|-|--final=|--always=p,p",
-            br#"Ok(Ask { file: "-", verbose: false, format: Plain, questions: Questions { threads: 2, steps: 1000000, limit: 1000000, memory: 1024, always: Some("p,p"), last: Some(""), keeps_going: false } })"#,
+            br#"Ok(Ask { file: "-", verbose: false, format: Plain, questions: Questions { threads: ThreadRange { first: 2, last: 2 }, steps: 1000000, limit: 1000000, memory: 1024, always: Some("p,p"), last: Some(""), keeps_going: false } })"#,
         ),
         (
             "txc|outcomes|a.c|--limit=9",
-            br#"Ok(Program { file: "a.c", verbose: false, format: Plain, task: Outcomes { threads: 2, steps: 1000000, limit: 9, memory: 1024 } })"#,
+            br#"Ok(Program { file: "a.c", verbose: false, format: Plain, task: Outcomes { threads: ThreadRange { first: 2, last: 2 }, steps: 1000000, limit: 9, memory: 1024 } })"#,
         ),
         (
             "txc|outcomes|a.c|--always=p|--threads=65",

@@ -1,5 +1,5 @@
 -- What a status says of properties.
-use Rattle.std.proofs.Common.{◌≡◌, ◌≢◌, ◌⊎◌, inl, ℕ, Bool, true, false, List, [], ◌∷◌, ◌++◌, ◌<◌, All, Contains, Option, Some, map, length, get_or, ap, refl, sym, subst, arith}
+use Rattle.std.proofs.Common.{◌≡◌, ◌≢◌, ◌⊎◌, inl, ◌-◌, ℕ, Bool, true, false, List, [], ◌∷◌, ◌++◌, ◌<◌, All, Contains, Option, Some, map, length, get_or, ap, refl, sym, subst, arith}
 use Rattle.std.specs.Prelude.{◌||◌}
 use Rattle.std.specs.List.{list_any}
 use Rattle.std.specs.Io.KnownBytes.{Appends}
@@ -23,7 +23,8 @@ use Rattle.serving.specs.Askable.{IsAskable}
 use Rattle.serving.specs.Properties.{AreAnswered, AreAskable, AreFoundOfText, HasUnaskable, IsAsked, IsTextOfProperties, IsUnaskable, TellsProperties, asked_by, asked_each, has_failed, has_unheld}
 use Rattle.serving.specs.Written.{WritesPart}
 use Rattle.serving.specs.inner.Properties.{AreThese}
-use Rattle.serving.specs.inner.Serves.{PrintsProperties, ServesQuestions}
+use Rattle.serving.specs.inner.Serves.{PrintsProperties, PrintsPropertiesInTurn, ServesQuestions}
+use Rattle.serving.proofs.InTurn.{part_in_turn, says_so}
 use Rattle.serving.proofs.Parts.{part_so}
 use Rattle.serving.proofs.Printing.{serves_so}
 use Rattle.serving.proofs.Verdicts.{at_most_five, not_five, not_one, not_zero}
@@ -48,19 +49,23 @@ module _ (threads : ℕ) (Is Are : WalkEnd → List Property → List ReportedOr
 
 -- of an accepted program, and of the text that spells it
 module _ (questions : Questions) (text : List ℕ) (source : ParsedSource) (spelled : IsSourceOf text source) (accepted : ∥ IsAccepted source.program ∥₁) where
-  abbrev pub Theirs : WalkEnd → List Property → List ReportedOrder → Type 0
-  Theirs = AreAnswered source.program questions.threads questions.steps (asked_by questions)
+  abbrev pub Theirs : ℕ → WalkEnd → List Property → List ReportedOrder → Type 0
+  Theirs n = AreAnswered source.program n questions.steps (asked_by questions)
 
-  found_of_text : (end : WalkEnd) (ps : List Property) (ss : List ReportedOrder) → Theirs end ps ss → AreFoundOfText questions text end ps ss
-  found_of_text end ps ss are = record { source = source; spelled = spelled; accepted = accepted; are = are }
+  found_of_text : (n : ℕ) (end : WalkEnd) (ps : List Property) (ss : List ReportedOrder) → Theirs n end ps ss → AreFoundOfText questions text n end ps ss
+  found_of_text n end ps ss are = record { source = source; spelled = spelled; accepted = accepted; are = are }
 
-  pub serves_text : (status : ℕ) (old new : Option (List ℕ)) → PrintsProperties questions.threads Theirs status old new → ServesQuestions questions (Some text) status old new
+  pub serves_text : (status : ℕ) (old new : Option (List ℕ)) → PrintsPropertiesInTurn Theirs (questions.threads.last - questions.threads.first) questions.threads.first status old new → ServesQuestions questions (Some text) status old new
   serves_text status old new s =
-      serves_so (prints_so questions.threads Theirs (AreFoundOfText questions text) found_of_text status old new s) (λ says. says) (λ writes. writes)
+      serves_so s
+      (says_so (λ k t b a. TellsProperties k (Theirs k) t b a) (λ k t b a. TellsProperties k (AreFoundOfText questions text k) t b a) (λ k. tells_so k (Theirs k) (AreFoundOfText questions text k) (found_of_text k))
+      (questions.threads.last - questions.threads.first) questions.threads.first status old new)
+      (part_in_turn (λ k w. IsTextOfProperties k (Theirs k) w) (λ k w. IsTextOfProperties k (AreFoundOfText questions text k) w) (λ k. text_so k (Theirs k) (AreFoundOfText questions text k) (found_of_text k))
+      (questions.threads.last - questions.threads.first) questions.threads.first old new)
 
 -- of names that are the same
-pub prints_asked : (p : Program) (count steps : ℕ) (asked names : List IsAsked) (status : ℕ) (old new : Option (List ℕ)) → asked ≡ names → PrintsProperties count (AreAnswered p count steps asked) status old new → PrintsProperties count (AreAnswered p count steps names) status old new
-prints_asked p count steps asked names status old new same = subst (λ xs. PrintsProperties count (AreAnswered p count steps xs) status old new) same
+pub prints_asked : (p : Program) (steps : ℕ) (asked names : List IsAsked) (more first status : ℕ) (old new : Option (List ℕ)) → asked ≡ names → PrintsPropertiesInTurn (λ n. AreAnswered p n steps asked) more first status old new → PrintsPropertiesInTurn (λ n. AreAnswered p n steps names) more first status old new
+prints_asked p steps asked names more first status old new same = subst (λ xs. PrintsPropertiesInTurn (λ n. AreAnswered p n steps xs) more first status old new) same
 
 -- ---- a status that tells nothing
 

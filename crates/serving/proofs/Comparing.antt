@@ -1,5 +1,5 @@
 -- What a status tells of outcomes that are compared.
-use Rattle.std.proofs.Common.{◌≡◌, ◌≢◌, ◌∙◌, ◌⊎◌, inl, inr, ◌<◌, ℕ, zero, suc, false, List, [], ◌∷◌, All, Contains, length, get_or, Option, Some, refl, sym, ap, subst, arith}
+use Rattle.std.proofs.Common.{◌≡◌, ◌≢◌, ◌∙◌, ◌⊎◌, inl, inr, ◌-◌, ◌<◌, ℕ, zero, suc, false, List, [], ◌∷◌, All, Contains, length, get_or, Option, Some, refl, sym, ap, subst, arith}
 use Rattle.std.specs.Prelude.{IfSome, codes, string_bytes}
 use Rattle.std.specs.Global.{Global}
 use Rattle.std.specs.declared.string.String.{String}
@@ -17,8 +17,9 @@ use Rattle.report.specs.Printed.{Printed}
 use Rattle.refinements.specs.ShownBy.{IsShownAmong, IsShownBy}
 use Rattle.refinements.specs.Told.{beyond_text, refined_text}
 use Rattle.serving.specs.Checks.{IsSourceOf}
-use Rattle.serving.specs.Compared.{ComparesOutcomes, Confirms, Denies, HaveNoCode, WritesComparison}
+use Rattle.serving.specs.Compared.{AreEitherInTurn, ComparesOutcomes, Confirms, Denies, HaveNoCode, TellsInTurn, WritesComparison, more_compared}
 use Rattle.serving.specs.Expected.{SaysExpected, ShowsUnexpected}
+use Rattle.serving.specs.InTurn.{AreTextsInTurn, SaysInTurn}
 use Rattle.serving.specs.Limits.{HasNoCode}
 use Rattle.serving.specs.Outcomes.{AreOutcomesOf, IsListEnding, IsOutcomeOf}
 use Rattle.serving.specs.Refines.{AreSourcesOf, IsBeyond, Refines, SaysRefined, SaysRefines, ShowsBeyond, ShowsOther}
@@ -27,18 +28,21 @@ use Rattle.serving.specs.Reports.{has_stopped}
 use Rattle.serving.specs.Verdicts.{IsEither, Tells}
 use Rattle.serving.specs.Written.{WritesPart}
 use Rattle.serving.specs.inner.Compared.{SaysShown, ShowsUnshown}
-use Rattle.serving.specs.inner.Serves.{PrintsEither, ServesEither, ServesExpected}
+use Rattle.serving.specs.inner.Serves.{PrintsEither, PrintsEitherInTurn, ServesEither, ServesEitherInTurn, ServesExpected}
+use Rattle.serving.proofs.InTurn.{part_in_turn, says_so, stops}
 use Rattle.serving.proofs.Refusals.{refused_text, unread_refused}
 use Rattle.serving.proofs.Printing.{serves_so}
-use Rattle.serving.proofs.Verdicts.{either_served, known_all, known_so, not_five, not_zero, prints_so, tells_nothing}
+use Rattle.serving.proofs.Verdicts.{either_served, either_so, known_all, known_so, not_five, not_zero, prints_so, tells_nothing, tells_so}
 
 -- ---- comparisons of which a status tells nothing
 
 module _ (c : Comparison) (other : Option (List ℕ)) (status : ℕ) (old new : Option (List ℕ)) where
   pub nothing_compared : (text : List ℕ) → status ≢ 0 → status ≢ 5 → ComparesOutcomes c other text status old new
   nothing_compared text no_zero no_five =
-      known_all (λ bytes. Tells (Confirms c.against c.threads text bytes) (Denies c.against c.threads text bytes) status old new)
-      (λ bytes. tells_nothing (Confirms c.against c.threads text bytes) (Denies c.against c.threads text bytes) status old new no_zero no_five) other
+      known_all (λ bytes. TellsInTurn c.against c.threads text bytes status old new)
+      (λ bytes.
+      stops (λ k t b a. Tells (Confirms c.against k text bytes) (Denies c.against k text bytes) t b a) (more_compared c.against c.threads) c.threads.first status old new no_zero
+      (tells_nothing (Confirms c.against c.threads.first text bytes) (Denies c.against c.threads.first text bytes) status old new no_zero no_five)) other
 
 -- a status is passed on
 pub passed_on : {IsOne : Type 0} (status told : ℕ) → told ≡ status → (status ≡ 1) × IsOne ⊎ (status ≡ 2) ⊎ (status ≡ 4) → (told ≡ 1) × IsOne ⊎ (told ≡ 2) ⊎ (told ≡ 4)
@@ -48,7 +52,7 @@ passed_on status told same (inr (inr four)) = inr (inr (same ∙ four))
 
 -- nothing is written
 pub nothing_compared_written : (c : Comparison) (other : Option (List ℕ)) (text : List ℕ) (old new : Option (List ℕ)) → new ≡ old → WritesComparison c other text old new
-nothing_compared_written c other text old new same = known_all (λ bytes. WritesPart (IsEither (Confirms c.against c.threads text bytes) (Denies c.against c.threads text bytes)) old new) (λ bytes. inl same) other
+nothing_compared_written c other text old new same = known_all (λ bytes. WritesPart (AreEitherInTurn c.against c.threads text bytes) old new) (λ bytes. inl same) other
 
 -- a source that is refused has no code
 pub lacks_code : (against : Against) (other : Option (List ℕ)) (text : List ℕ) → IsRefused text → HaveNoCode against other text
@@ -58,22 +62,31 @@ lacks_code (Expected file) other text is = refused_text text is
 -- ---- by what outcomes are compared with
 
 module _ (c : Comparison) (file : String Global) (name text : List ℕ) (other : Option (List ℕ)) (same : name ≡ string_bytes file) where
-  pub compares_refined : (status : ℕ) (old new : Option (List ℕ)) → c.against ≡ Refined file → IfSome other (λ bytes. Tells (SaysRefined name c.threads text bytes) (ShowsOther name c.threads text bytes) status old new) → ComparesOutcomes c other text status old new
-  compares_refined status old new is t =
-      let this = subst (λ n. IfSome other (λ bytes. Tells (SaysRefined n c.threads text bytes) (ShowsOther n c.threads text bytes) status old new)) same t in
-      subst (λ a. IfSome other (λ bytes. Tells (Confirms a c.threads text bytes) (Denies a c.threads text bytes) status old new)) (sym is) this
+  -- what is told and written of refinement by a program of this name, for so many numbers of threads after the first
+  abbrev pub RefinedTold : (name : List ℕ) → (status : ℕ) → (old new : Option (List ℕ)) → Type 0
+  RefinedTold n status old new =
+      IfSome other (λ bytes. SaysInTurn (λ k t b a. Tells (SaysRefined n k text bytes) (ShowsOther n k text bytes) t b a) (c.threads.last - c.threads.first) c.threads.first status old new)
 
-  pub comparison_refined : (old new : Option (List ℕ)) → c.against ≡ Refined file → IfSome other (λ bytes. WritesPart (IsEither (SaysRefined name c.threads text bytes) (ShowsOther name c.threads text bytes)) old new) → WritesComparison c other text old new
+  abbrev pub RefinedWritten : (name : List ℕ) → (old new : Option (List ℕ)) → Type 0
+  RefinedWritten n old new =
+      IfSome other (λ bytes. WritesPart (AreTextsInTurn (λ k w. IsEither (SaysRefined n k text bytes) (ShowsOther n k text bytes) w) (c.threads.last - c.threads.first) c.threads.first) old new)
+
+  pub compares_refined : (status : ℕ) (old new : Option (List ℕ)) → c.against ≡ Refined file → RefinedTold name status old new → ComparesOutcomes c other text status old new
+  compares_refined status old new is t =
+      let this = subst (λ n. RefinedTold n status old new) same t in
+      subst (λ a. IfSome other (λ bytes. TellsInTurn a c.threads text bytes status old new)) (sym is) this
+
+  pub comparison_refined : (old new : Option (List ℕ)) → c.against ≡ Refined file → RefinedWritten name old new → WritesComparison c other text old new
   comparison_refined old new is w =
-      let this = subst (λ n. IfSome other (λ bytes. WritesPart (IsEither (SaysRefined n c.threads text bytes) (ShowsOther n c.threads text bytes)) old new)) same w in
-      subst (λ a. IfSome other (λ bytes. WritesPart (IsEither (Confirms a c.threads text bytes) (Denies a c.threads text bytes)) old new)) (sym is) this
+      let this = subst (λ n. RefinedWritten n old new) same w in
+      subst (λ a. IfSome other (λ bytes. WritesPart (AreEitherInTurn a c.threads text bytes) old new)) (sym is) this
 
 module _ (c : Comparison) (file : String Global) (text : List ℕ) (other : Option (List ℕ)) where
-  pub compares_expected : (status : ℕ) (old new : Option (List ℕ)) → c.against ≡ Expected file → IfSome other (λ bytes. Tells (SaysExpected (IsListEnding Whole c.threads text) bytes) (ShowsUnexpected (IsListEnding Whole c.threads text) bytes) status old new) → ComparesOutcomes c other text status old new
-  compares_expected status old new is t = subst (λ a. IfSome other (λ bytes. Tells (Confirms a c.threads text bytes) (Denies a c.threads text bytes) status old new)) (sym is) t
+  pub compares_expected : (status : ℕ) (old new : Option (List ℕ)) → c.against ≡ Expected file → IfSome other (λ bytes. Tells (SaysExpected (IsListEnding Whole c.threads.first text) bytes) (ShowsUnexpected (IsListEnding Whole c.threads.first text) bytes) status old new) → ComparesOutcomes c other text status old new
+  compares_expected status old new is t = subst (λ a. IfSome other (λ bytes. TellsInTurn a c.threads text bytes status old new)) (sym is) t
 
-  pub comparison_expected : (old new : Option (List ℕ)) → c.against ≡ Expected file → IfSome other (λ bytes. WritesPart (IsEither (SaysExpected (IsListEnding Whole c.threads text) bytes) (ShowsUnexpected (IsListEnding Whole c.threads text) bytes)) old new) → WritesComparison c other text old new
-  comparison_expected old new is w = subst (λ a. IfSome other (λ bytes. WritesPart (IsEither (Confirms a c.threads text bytes) (Denies a c.threads text bytes)) old new)) (sym is) w
+  pub comparison_expected : (old new : Option (List ℕ)) → c.against ≡ Expected file → IfSome other (λ bytes. WritesPart (IsEither (SaysExpected (IsListEnding Whole c.threads.first text) bytes) (ShowsUnexpected (IsListEnding Whole c.threads.first text) bytes)) old new) → WritesComparison c other text old new
+  comparison_expected old new is w = subst (λ a. IfSome other (λ bytes. WritesPart (AreEitherInTurn a c.threads text bytes) old new)) (sym is) w
 
 -- ---- lists that are expected
 
@@ -203,22 +216,47 @@ module _ (text other : List ℕ) (this that : ParsedSource) (spelled : IsSourceO
     is_so = is;
   }
 
-  pub refined_served : (name : List ℕ) (count status : ℕ) (old new : Option (List ℕ)) → PrintsEither (SaysRefines name count this.program that.program) (ShowsBeyond name count this.program that.program) status old new → ServesEither (SaysRefined name count text) (ShowsOther name count text) (HasNoCode text ⊎ HasNoCode other) (Some other) status old new
-  refined_served name count status old new s =
-      let told = prints_so (SaysRefines name count this.program that.program) (ShowsBeyond name count this.program that.program) (SaysRefined name count text other) (ShowsOther name count text other)
-      (λ w is. of_sources (λ p q. SaysRefines name count p q w) is) (λ w is. of_sources (λ p q. ShowsBeyond name count p q w) is) status old new s in
-      serves_so told (λ says. says) (λ writes. writes)
+  module _ (name : List ℕ) (k : ℕ) where
+    refines_here : (w : List ℕ) → SaysRefines name k this.program that.program w → SaysRefined name k text other w
+    refines_here w is = of_sources (λ p q. SaysRefines name k p q w) is
 
-pub nothing_refined : (name : List ℕ) (count : ℕ) (text : List ℕ) (known : Option (List ℕ)) (status : ℕ) (old new : Option (List ℕ)) → status ≢ 0 → status ≢ 5 → IfSome known (λ bytes. Tells (SaysRefined name count text bytes) (ShowsOther name count text bytes) status old new)
-nothing_refined name count text known status old new no_zero no_five =
-    known_all (λ bytes. Tells (SaysRefined name count text bytes) (ShowsOther name count text bytes) status old new) (λ bytes. tells_nothing (SaysRefined name count text bytes) (ShowsOther name count text bytes) status old new no_zero no_five) known
+    beyond_here : (w : List ℕ) → ShowsBeyond name k this.program that.program w → ShowsOther name k text other w
+    beyond_here w is = of_sources (λ p q. ShowsBeyond name k p q w) is
 
-pub unread_refined : {IsOne : Type 0} (name : List ℕ) (count : ℕ) (text : List ℕ) (known : Option (List ℕ)) (status : ℕ) (old new : Option (List ℕ)) → (status ≡ 1) × IsOne ⊎ (status ≡ 2) ⊎ (status ≡ 4) → IfSome known (λ bytes. Tells (SaysRefined name count text bytes) (ShowsOther name count text bytes) status old new)
-unread_refined name count text known status old new (inl one) = nothing_refined name count text known status old new (λ z. absurd (omega (arith, one.0, z))) (λ z. absurd (omega (arith, one.0, z)))
-unread_refined name count text known status old new (inr is) = nothing_refined name count text known status old new (not_zero status is) (not_five status is)
+    refined_tells : (status : ℕ) (old new : Option (List ℕ)) → Tells (SaysRefines name k this.program that.program) (ShowsBeyond name k this.program that.program) status old new → Tells (SaysRefined name k text other) (ShowsOther name k text other) status old new
+    refined_tells = tells_so (SaysRefines name k this.program that.program) (ShowsBeyond name k this.program that.program) (SaysRefined name k text other) (ShowsOther name k text other) refines_here beyond_here
 
-pub nothing_refined_written : (name : List ℕ) (count : ℕ) (text : List ℕ) (known old new : Option (List ℕ)) → new ≡ old → IfSome known (λ bytes. WritesPart (IsEither (SaysRefined name count text bytes) (ShowsOther name count text bytes)) old new)
-nothing_refined_written name count text known old new same = known_all (λ bytes. WritesPart (IsEither (SaysRefined name count text bytes) (ShowsOther name count text bytes)) old new) (λ bytes. inl same) known
+    refined_either : (w : List ℕ) → IsEither (SaysRefines name k this.program that.program) (ShowsBeyond name k this.program that.program) w → IsEither (SaysRefined name k text other) (ShowsOther name k text other) w
+    refined_either = either_so (SaysRefines name k this.program that.program) (ShowsBeyond name k this.program that.program) (SaysRefined name k text other) (ShowsOther name k text other) refines_here beyond_here
+
+  pub refined_served : (name : List ℕ) (more first status : ℕ) (old new : Option (List ℕ)) → PrintsEitherInTurn (λ k. SaysRefines name k this.program that.program) (λ k. ShowsBeyond name k this.program that.program) more first status old new → ServesEitherInTurn (λ k. SaysRefined name k text) (λ k. ShowsOther name k text) (HasNoCode text ⊎ HasNoCode other) more first (Some other) status old new
+  refined_served name more first status old new s =
+      serves_so s
+      (says_so (λ k t b a. Tells (SaysRefines name k this.program that.program) (ShowsBeyond name k this.program that.program) t b a) (λ k t b a. Tells (SaysRefined name k text other) (ShowsOther name k text other) t b a) (refined_tells name) more first status old new)
+      (part_in_turn (λ k w. IsEither (SaysRefines name k this.program that.program) (ShowsBeyond name k this.program that.program) w) (λ k w. IsEither (SaysRefined name k text other) (ShowsOther name k text other) w) (refined_either name) more first old new)
+
+-- what a status tells of it for so many numbers of threads after the first, and what is written
+module _ (name : List ℕ) (text : List ℕ) (more first : ℕ) where
+  abbrev pub AreRefinedTold : (bytes : List ℕ) → (status : ℕ) → (old new : Option (List ℕ)) → Type 0
+  AreRefinedTold bytes status old new = SaysInTurn (λ k t b a. Tells (SaysRefined name k text bytes) (ShowsOther name k text bytes) t b a) more first status old new
+
+  abbrev pub AreRefinedTexts : (bytes : List ℕ) → (old new : Option (List ℕ)) → Type 0
+  AreRefinedTexts bytes old new = WritesPart (AreTextsInTurn (λ k w. IsEither (SaysRefined name k text bytes) (ShowsOther name k text bytes) w) more first) old new
+
+  pub none_refined : (bytes : List ℕ) (status : ℕ) (old new : Option (List ℕ)) → status ≢ 0 → status ≢ 5 → AreRefinedTold bytes status old new
+  none_refined bytes status old new no_zero no_five =
+      stops (λ k t b a. Tells (SaysRefined name k text bytes) (ShowsOther name k text bytes) t b a) more first status old new no_zero
+      (tells_nothing (SaysRefined name first text bytes) (ShowsOther name first text bytes) status old new no_zero no_five)
+
+  nothing_refined : (known : Option (List ℕ)) (status : ℕ) (old new : Option (List ℕ)) → status ≢ 0 → status ≢ 5 → IfSome known (λ bytes. AreRefinedTold bytes status old new)
+  nothing_refined known status old new no_zero no_five = known_all (λ bytes. AreRefinedTold bytes status old new) (λ bytes. none_refined bytes status old new no_zero no_five) known
+
+  pub unread_refined : {IsOne : Type 0} (known : Option (List ℕ)) (status : ℕ) (old new : Option (List ℕ)) → (status ≡ 1) × IsOne ⊎ (status ≡ 2) ⊎ (status ≡ 4) → IfSome known (λ bytes. AreRefinedTold bytes status old new)
+  unread_refined known status old new (inl one) = nothing_refined known status old new (λ z. absurd (omega (arith, one.0, z))) (λ z. absurd (omega (arith, one.0, z)))
+  unread_refined known status old new (inr is) = nothing_refined known status old new (not_zero status is) (not_five status is)
+
+  pub nothing_refined_written : (known old new : Option (List ℕ)) → new ≡ old → IfSome known (λ bytes. AreRefinedTexts bytes old new)
+  nothing_refined_written known old new same = known_all (λ bytes. AreRefinedTexts bytes old new) (λ bytes. inl same) known
 
 pub other_lacks : (text : List ℕ) (known : Option (List ℕ)) (status : ℕ) → (status ≡ 1) × IfSome known (λ bytes. IsRefused bytes) ⊎ (status ≡ 2) ⊎ (status ≡ 4) → status ≡ 1 → HasNoCode text ⊎ IfSome known (λ bytes. HasNoCode bytes)
 other_lacks text known status is e = inr (known_so (λ bytes. IsRefused bytes) (λ bytes. HasNoCode bytes) refused_text known (unread_refused status is e))

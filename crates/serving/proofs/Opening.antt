@@ -1,5 +1,5 @@
 -- What is served over files: of a text that was read from one, of one that was not read, and of one that was opened.
-use Rattle.std.proofs.Common.{◌≡◌, ◌≢◌, ◌∙◌, ◌⊎◌, inl, inr, ◌≤◌, ℕ, List, Option, Some, None, subst, arith}
+use Rattle.std.proofs.Common.{◌≡◌, ◌≢◌, ◌∙◌, ◌⊎◌, inl, inr, ◌-◌, ◌≤◌, ℕ, List, Option, Some, None, subst, arith}
 use Rattle.std.specs.Prelude.{IfSome}
 use Rattle.command.specs.declared.request.Claim.{Claim}
 use Rattle.command.specs.declared.request.Comparison.{Comparison}
@@ -9,7 +9,7 @@ use Rattle.serving.specs.Answers.{Answers}
 use Rattle.serving.specs.Certified.{CertifiesReport, WritesVerdict}
 use Rattle.serving.specs.Compared.{ComparesOutcomes, HaveNoCode, WritesComparison}
 use Rattle.serving.specs.Limits.{HasNoCode}
-use Rattle.serving.specs.Properties.{AnswersQuestions, AreFoundOfText, IsToldOf}
+use Rattle.serving.specs.Properties.{AnswersQuestions, AreFoundOfText, IsToldOf, TellsProperties}
 use Rattle.serving.specs.Refusals.{IsRefused}
 use Rattle.serving.specs.Refused.{IsRefusedFor}
 use Rattle.serving.specs.Written.{IsAskedFor, WritesPart}
@@ -17,6 +17,7 @@ use Rattle.serving.specs.inner.Serves.{ServesClaim, ServesComparison, ServesFile
 use Rattle.serving.proofs.Answering.{tells_nothing}
 use Rattle.serving.proofs.Certifying.{no_claim_verdict, nothing_claimed}
 use Rattle.serving.proofs.Comparing.{lacks_code, nothing_compared, nothing_compared_written}
+use Rattle.serving.proofs.InTurn.{stops}
 use Rattle.serving.proofs.Refusals.{nothing_printed, refused_task, refused_text, unread_refused}
 
 -- ---- the status of a file that was not read
@@ -143,7 +144,9 @@ module _ (questions : Questions) where
   pub questions_unread : (bytes : Option (List ℕ)) (status : ℕ) (old new : Option (List ℕ)) → (status ≡ 1) × IfSome bytes (λ b. IsRefused b) ⊎ (status ≡ 2) ⊎ (status ≡ 4) → new ≡ old → ServesQuestions questions bytes status old new
   questions_unread =
       unread 5 (λ text s o n. AnswersQuestions questions text s o n) (λ text. HasNoCode text) (λ text o n. WritesPart (IsToldOf questions text) o n)
-      (λ text s o n zero three five. tells_nothing (AreFoundOfText questions text) s o n zero five) refused_text (λ text o n same. inl same) (omega arith)
+      (λ text s o n zero three five.
+      stops (λ k t b a. TellsProperties k (AreFoundOfText questions text k) t b a) (questions.threads.last - questions.threads.first) questions.threads.first s o n zero
+      (tells_nothing (AreFoundOfText questions text questions.threads.first) s o n zero five)) refused_text (λ text o n same. inl same) (omega arith)
 
   pub questions_opened : (known file : Option (List ℕ)) (status : ℕ) (old new : Option (List ℕ)) → known ≡ file → ServesQuestions questions known status old new → ServesQuestions questions file status old new
   questions_opened known file status old new same s = subst (λ k. ServesQuestions questions k status old new) same s

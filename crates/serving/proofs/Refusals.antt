@@ -1,5 +1,5 @@
 -- What a status says of a text, and what it does not say of what was printed.
-use Rattle.std.proofs.Common.{◌≡◌, ◌≢◌, ◌<◌, ◌⊎◌, inl, inr, ℕ, List, length, Option, Some, None, Result, Ok, Err, IsErr, refl, subst, sym, arith}
+use Rattle.std.proofs.Common.{◌≡◌, ◌≢◌, ◌-◌, ◌<◌, ◌⊎◌, inl, inr, ℕ, List, length, Option, Some, None, Result, Ok, Err, IsErr, refl, subst, sym, arith}
 use Rattle.std.specs.Prelude.{IfErr, IfSome}
 use Rattle.std.specs.Result.{IsErrAnd}
 use Rattle.syntax.specs.Grammar.{ParsedSource as Spelled}
@@ -15,8 +15,10 @@ use Rattle.serving.specs.declared.program.SourceFault.TheVariants.{OutOfMemory, 
 use Rattle.serving.specs.Answers.{Answers}
 use Rattle.serving.specs.Checks.{IsSourceOf}
 use Rattle.serving.specs.Limits.{HasNoCode, IsFaultOfText, PassesLimit}
+use Rattle.serving.specs.Outcomes.{PrintsOutcomes}
 use Rattle.serving.specs.Refusals.{IsFaultOfSource, IsRefused}
 use Rattle.serving.specs.Refused.{IsRefusedFor}
+use Rattle.serving.proofs.InTurn.{stops}
 
 -- a fault of the source is one of its text
 faulty : (text : List ℕ) (fault : SourceFault) → IsFaultOfSource text fault → IsFaultOfText text fault
@@ -76,7 +78,8 @@ nothing_printed (Picture threads from steps) schedule text status old new zero t
 nothing_printed (PrintSchedule threads seed count) schedule text status old new zero three = λ e. absurd (zero e)
 nothing_printed (PrintOrder threads order) schedule text status old new zero three = λ e. absurd (zero e)
 nothing_printed (Source threads order ticks) schedule text status old new zero three = λ e. absurd (neither status zero three e)
-nothing_printed (Outcomes threads steps limit memory) schedule text status old new zero three = λ e. absurd (neither status zero three e)
+nothing_printed (Outcomes threads steps limit memory) schedule text status old new zero three =
+    stops (λ n s o w. PrintsOutcomes n text s o w) (threads.last - threads.first) threads.first status old new zero (λ e. absurd (neither status zero three e))
 
 -- what the status 1 says there
 pub unread_refused : {IsOne : Type 0} (status : ℕ) → (status ≡ 1) × IsOne ⊎ (status ≡ 2) ⊎ (status ≡ 4) → status ≡ 1 → IsOne

@@ -17,7 +17,7 @@ module _ (S N T M : List ℕ → Type 0) (one : (w : List ℕ) → S w → T w) 
     not_so = λ e. let w = t.not_so e in (w.0, other w.0 w.1, w.2);
   }
 
-  either_so : (w : List ℕ) → IsEither S N w → IsEither T M w
+  pub either_so : (w : List ℕ) → IsEither S N w → IsEither T M w
   either_so w (inl s) = inl (one w s)
   either_so w (inr n) = inr (other w n)
 

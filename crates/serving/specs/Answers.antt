@@ -10,6 +10,7 @@ use Rattle.serving.specs.Checks.{Accepts, SaysAccepted}
 use Rattle.serving.specs.Compared.{ComparesOutcomes, WritesComparison}
 use Rattle.serving.specs.Listings.{PrintsListing}
 use Rattle.serving.specs.Reports.{PrintsReport}
+use Rattle.serving.specs.InTurn.{SaysOfRange}
 use Rattle.serving.specs.Outcomes.{PrintsOutcomes}
 use Rattle.serving.specs.Properties.{AnswersQuestions, IsToldOf}
 use Rattle.serving.specs.Orders.{RunsInOrder, RunsInSomeOrder}
@@ -42,7 +43,8 @@ Answers (PrintOrder threads order) schedule text status old new =
     PrintsOrder threads order.items text status old new
 Answers (Source threads order ticks) schedule text status old new =
     PrintsReport (λ shown. RunsInOrder threads ticks order.items text shown × Accepts text) status old new
-Answers (Outcomes threads steps limit memory) schedule text status old new = PrintsOutcomes threads text status old new
+Answers (Outcomes threads steps limit memory) schedule text status old new =
+    SaysOfRange (λ n s o w. PrintsOutcomes n text s o w) threads status old new
 
 -- a request, if these are the bytes of the file
 abbrev pub AnswersRequest : Request → (schedule report : Option (List ℕ)) → (bytes : List ℕ) → (status : ℕ) →

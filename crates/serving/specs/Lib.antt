@@ -10,6 +10,8 @@ pub mod Checks
 pub mod Shows
 -- threads in an order
 pub mod Orders
+-- answers for several numbers of threads
+pub mod InTurn
 -- the outcomes of all orders
 pub mod Outcomes
 -- the code of a source

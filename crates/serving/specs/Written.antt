@@ -18,6 +18,7 @@ use Rattle.command.specs.declared.request.Task.TheVariants.{PrintOrder, PrintSch
 use Rattle.serving.specs.Checks.{Accepts}
 use Rattle.serving.specs.Codes.{Compiles}
 use Rattle.serving.specs.Listings.{ShowsListing}
+use Rattle.serving.specs.InTurn.{AreTextsOfRange}
 use Rattle.serving.specs.Outcomes.{IsListOfOutcomes}
 use Rattle.serving.specs.Orders.{RunsInOrder}
 use Rattle.serving.specs.Replays.{AreTurnsOf, IsReplayOfText, lines_of_seed}
@@ -75,7 +76,8 @@ IsAskedFor (PrintSchedule threads seed count) schedule text written = IsSeedSche
 IsAskedFor (PrintOrder threads order) schedule text written = IsOrderSchedule threads order.items text written
 IsAskedFor (Source threads order ticks) schedule text written =
     IsReportOf (λ shown. RunsInOrder threads ticks order.items text shown × Accepts text) written
-IsAskedFor (Outcomes threads steps limit memory) schedule text written = IsListOfOutcomes threads text written
+IsAskedFor (Outcomes threads steps limit memory) schedule text written =
+    AreTextsOfRange (λ n list. IsListOfOutcomes n text list) threads written
 
 -- a text is written, or a prefix of it
 abbrev pub AppendsBeginning : Option (List ℕ) → Option (List ℕ) → List ℕ → Type 0

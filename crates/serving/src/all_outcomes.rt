@@ -1,31 +1,94 @@
 //! `txc outcomes`: what can come out of a source, and where its threads are stuck.
 
-ghost use Rattle.std.specs.Prelude.{◌≡◌, ◌≢◌, ◌≤◌, [], map, IfOk, IfErr};
+ghost use Rattle.std.specs.Prelude.{◌≡◌, ◌≢◌, ◌≤◌, ◌-◌, [], map, IfOk, IfErr};
 ghost use Rattle.std.specs.List.{list_any};
 ghost use Rattle.std.specs.Io.KnownBytes.{Appends};
+ghost use Rattle.parse.specs.Faults.{source_of};
+ghost use Rattle.syntax.specs.Views.{program_of};
 ghost use Rattle.report.specs.Views.{reported_of};
 ghost use Rattle.report.specs.declared.outcome_list.WalkEnd.TheVariants.{Whole};
+ghost use Rattle.serving.specs.Checks.{IsSourceOf};
+ghost use Rattle.serving.specs.Codes.{IsCodeOf};
+ghost use Rattle.serving.specs.InTurn.{AreTextsOfRange, SaysOfRange};
 ghost use Rattle.serving.specs.Limits.{HasNoCode, IsFaultInOrders};
 ghost use Rattle.serving.specs.Outcomes.{AreOutcomesOfText, IsListOfOutcomes, PrintsOutcomes, outcomes_status};
 ghost use Rattle.serving.specs.Reports.{has_trapped};
 ghost use Rattle.serving.specs.Written.{WritesPart};
 ghost use Rattle.serving.specs.inner.Compared.{list_of};
-ghost use Rattle.serving.specs.inner.Serves.{Serves, ServesText};
+ghost use Rattle.serving.specs.inner.Serves.{PrintsInTurn, Serves, ServesText};
 
 use crate::listed_ends::tell_listed_ends;
 use crate::print::{ENDED, STOPPED, TRAPPED, has_trapped, print};
-use crate::program::compile;
+use crate::program::{Compiled, compile};
 use crate::source::OrderFault;
 use crate::tell::{Teller, cannot_write, out_of_memory};
 use crate::walked::{OutcomesFound, outcomes_in};
+use command::ThreadRange;
 use report::{ReportedOrder, WalkEnd, list_text};
 use std::alloc::Allocator;
 use std::io::Write;
 
-/// Lists the outcomes of a source's threads over all orders, and the orders that are stuck.
+/// Lists the outcomes of a source's threads over all orders, and the orders that are stuck, for one number of threads
+/// after another, up to the first whose status is not 0.
 pub(crate) fn all_outcomes<A: Allocator + Copy, W: Write, E: Write>(
     alloc: A,
     text: &str,
+    range: ThreadRange,
+    steps: u64,
+    limit: u32,
+    memory: u64,
+    out: &mut W,
+    teller: &mut Teller<'_, E>,
+) -> u8
+    ensures { ServesText (SaysOfRange (λ n s o w. PrintsOutcomes n text.now s o w) range) (HasNoCode text.now)
+        (AreTextsOfRange (λ n list. IsListOfOutcomes n text.now list) range) result (W.contents out.old)
+        (W.contents out.new) }
+{
+    match compile(alloc, text) {
+        Ok(compiled) => list_in_turn(
+            alloc, text, &compiled, range, steps, limit, memory, out, teller,
+        ),
+        Err(fault) => teller.refuse(alloc, text, fault),
+    }
+}
+
+/// Lists the outcomes of a program for one number of threads after another.
+fn list_in_turn<A: Allocator + Copy, W: Write, E: Write>(
+    alloc: A,
+    text: &str,
+    compiled: &Compiled<A>,
+    range: ThreadRange,
+    steps: u64,
+    limit: u32,
+    memory: u64,
+    out: &mut W,
+    teller: &mut Teller<'_, E>,
+) -> u8
+    requires source { IsSourceOf text.now (source_of compiled.now.accepted.safe.typed.unit) }
+    requires code { IsCodeOf (program_of compiled.now.accepted.safe.typed.unit) compiled.now.code }
+    ensures { PrintsInTurn 4 (λ n s o w. PrintsOutcomes n text.now s o w) (λ n list. IsListOfOutcomes n text.now list)
+        (range.last - range.first) range.first result (W.contents out.old) (W.contents out.new) }
+{
+    let mut threads = range.first;
+    'numbers: while threads < range.last {
+        let status = list_of_threads(
+            alloc, text, compiled, threads, steps, limit, memory, out, teller,
+        );
+        if status != ENDED {
+            return status;
+        }
+        threads += 1;
+    }
+    list_of_threads(
+        alloc, text, compiled, threads, steps, limit, memory, out, teller,
+    )
+}
+
+/// Lists the outcomes of so many threads of a program.
+fn list_of_threads<A: Allocator + Copy, W: Write, E: Write>(
+    alloc: A,
+    text: &str,
+    compiled: &Compiled<A>,
     threads: u32,
     steps: u64,
     limit: u32,
@@ -33,17 +96,18 @@ pub(crate) fn all_outcomes<A: Allocator + Copy, W: Write, E: Write>(
     out: &mut W,
     teller: &mut Teller<'_, E>,
 ) -> u8
-    ensures { ServesText (PrintsOutcomes threads text.now) (HasNoCode text.now) (IsListOfOutcomes threads text.now)
-        result (W.contents out.old) (W.contents out.new) }
+    requires source { IsSourceOf text.now (source_of compiled.now.accepted.safe.typed.unit) }
+    requires code { IsCodeOf (program_of compiled.now.accepted.safe.typed.unit) compiled.now.code }
+    ensures { Serves 4 (PrintsOutcomes threads text.now) ⊥ (WritesPart (IsListOfOutcomes threads text.now)) result
+        (W.contents out.old) (W.contents out.new) }
 {
-    match list_outcomes(alloc, text, threads, steps, limit, memory, teller) {
+    match outcomes_in(alloc, compiled, threads, steps, limit, memory, teller) {
         Ok(found) => {
             let status = print_outcomes(alloc, &found, threads, out, teller.err);
             tell_listed_ends(alloc, text, threads, &found, teller);
             status
         }
-        Err(OrderFault::Source(fault)) => teller.refuse(alloc, text, fault),
-        Err(OrderFault::Order(fault)) => teller.refuse_order(fault),
+        Err(fault) => teller.refuse_order(fault),
     }
 }
 

@@ -1,9 +1,9 @@
 //! `txc outcomes` with `--always` or `--final`: whether functions of a source hold in every state that its threads come
 //! to, in whatever order, or in every outcome.
 
-ghost use Rattle.std.specs.Prelude.{◌≡◌, ◌≢◌, ◌≤◌, ◌⊎◌, ◌++◌, ◌==◌, [], All, IfNone, IfOk, IfSome, map, not, true, false};
+ghost use Rattle.std.specs.Prelude.{◌≡◌, ◌≢◌, ◌≤◌, ◌⊎◌, ◌++◌, ◌-◌, ◌==◌, [], All, IfNone, IfOk, IfSome, map, not};
 ghost use Rattle.std.specs.List.{list_any, slice_split};
-ghost use Rattle.std.specs.Prelude.{Some};
+ghost use Rattle.std.specs.Prelude.{Some, false, true};
 ghost use Rattle.syntax.specs.Views.{program_of};
 ghost use Rattle.report.specs.PropertyViews.{property_of};
 ghost use Rattle.report.specs.Views.{reported_of};
@@ -13,7 +13,7 @@ ghost use Rattle.serving.specs.Askable.{IsAskable};
 ghost use Rattle.serving.specs.Properties.{AreAnswered, HasUnaskable, IsUnaskable, asked_by, asked_each};
 ghost use Rattle.serving.specs.Properties.{has_failed, has_unheld, is_failed, is_held, names_listed};
 ghost use Rattle.serving.specs.inner.Properties.{AreThese};
-ghost use Rattle.serving.specs.inner.Serves.{PrintsProperties, ServesQuestions};
+ghost use Rattle.serving.specs.inner.Serves.{PrintsProperties, PrintsPropertiesInTurn, ServesQuestions};
 
 use crate::askable::{Unaskable, first_unaskable};
 use crate::files::{Files, text_of};
@@ -23,7 +23,7 @@ use crate::program::{Compiled, compile, unit_of};
 use crate::properties::{Extent, PropertiesFound, properties_in};
 use crate::request::bytes_of_memory;
 use crate::tell::{Teller, cannot_write, out_of_memory};
-use command::Questions;
+use command::{Questions, ThreadRange};
 use messages::write_shown;
 use report::{Finding, Property, WalkEnd, properties_text};
 use std::alloc::{AllocError, Allocator};
@@ -113,18 +113,18 @@ fn ask_program<A: Allocator + Copy, W: Write, E: Write>(
     teller: &mut Teller<'_, E>,
 ) -> u8
     requires code { IsCodeOf (program_of compiled.now.accepted.safe.typed.unit) compiled.now.code }
-    ensures prints { PrintsProperties questions.now.threads (AreAnswered
-        (program_of compiled.now.accepted.safe.typed.unit) questions.now.threads questions.now.steps
-        (asked_by questions.now)) result (W.contents out.old)
-        (W.contents out.new) }
+    ensures prints { PrintsPropertiesInTurn (λ n. AreAnswered (program_of compiled.now.accepted.safe.typed.unit) n
+        questions.now.steps (asked_by questions.now)) (questions.now.threads.last - questions.now.threads.first)
+        questions.now.threads.first result (W.contents out.old) (W.contents out.new) }
     ensures unaskable { result ≡ 2 → HasUnaskable (program_of compiled.now.accepted.safe.typed.unit)
         (asked_by questions.now) }
 {
     match names_of(alloc, &questions.always) {
         Ok(always) => match names_of(alloc, &questions.last) {
-            Ok(last) => ask_names(
+            Ok(last) => ask_in_turn(
                 alloc,
                 questions,
+                questions.threads,
                 text,
                 compiled,
                 always.as_slice(),
@@ -150,10 +150,12 @@ fn extent_of(questions: &Questions) -> Extent
     }
 }
 
-/// Says whether functions of these names hold in every state, and these in every outcome.
-fn ask_names<A: Allocator + Copy, W: Write, E: Write>(
+/// Says whether functions of these names hold in every state, and these in every outcome, for one number of threads
+/// after another, up to the first whose status is not 0.
+fn ask_in_turn<A: Allocator + Copy, W: Write, E: Write>(
     alloc: A,
     questions: &Questions,
+    range: ThreadRange,
     text: &str,
     compiled: &Compiled<A>,
     always: &[&str],
@@ -162,8 +164,43 @@ fn ask_names<A: Allocator + Copy, W: Write, E: Write>(
     teller: &mut Teller<'_, E>,
 ) -> u8
     requires code { IsCodeOf (program_of compiled.now.accepted.safe.typed.unit) compiled.now.code }
-    ensures prints { PrintsProperties questions.now.threads (AreAnswered
-        (program_of compiled.now.accepted.safe.typed.unit) questions.now.threads questions.now.steps
+    ensures prints { PrintsPropertiesInTurn (λ n. AreAnswered (program_of compiled.now.accepted.safe.typed.unit) n
+        questions.now.steps
+        (asked_each false (map (λ n. n.now) always.now) ++ asked_each true (map (λ n. n.now) last.now)))
+        (range.last - range.first) range.first result (W.contents out.old) (W.contents out.new) }
+    ensures unaskable { result ≡ 2 → HasUnaskable (program_of compiled.now.accepted.safe.typed.unit)
+        (asked_each false (map (λ n. n.now) always.now) ++ asked_each true (map (λ n. n.now) last.now)) }
+{
+    let mut threads = range.first;
+    'numbers: while threads < range.last {
+        let status = ask_names(
+            alloc, questions, threads, text, compiled, always, last, out, teller,
+        );
+        if status != ENDED {
+            return status;
+        }
+        threads += 1;
+    }
+    ask_names(
+        alloc, questions, threads, text, compiled, always, last, out, teller,
+    )
+}
+
+/// Says whether functions of these names hold in every state of so many threads, and these in every outcome.
+fn ask_names<A: Allocator + Copy, W: Write, E: Write>(
+    alloc: A,
+    questions: &Questions,
+    threads: u32,
+    text: &str,
+    compiled: &Compiled<A>,
+    always: &[&str],
+    last: &[&str],
+    out: &mut W,
+    teller: &mut Teller<'_, E>,
+) -> u8
+    requires code { IsCodeOf (program_of compiled.now.accepted.safe.typed.unit) compiled.now.code }
+    ensures prints { PrintsProperties threads (AreAnswered
+        (program_of compiled.now.accepted.safe.typed.unit) threads questions.now.steps
         (asked_each false (map (λ n. n.now) always.now) ++ asked_each true (map (λ n. n.now) last.now))) result
         (W.contents out.old) (W.contents out.new) }
     ensures unaskable { result ≡ 2 → HasUnaskable (program_of compiled.now.accepted.safe.typed.unit)
@@ -178,16 +215,16 @@ fn ask_names<A: Allocator + Copy, W: Write, E: Write>(
     match properties_in(
         alloc,
         compiled,
-        questions.threads,
+        threads,
         extent_of(questions),
         always,
         last,
         teller,
     ) {
         Ok(found) => {
-            let status = print_found(alloc, &found, questions.threads, out, teller.err);
+            let status = print_found(alloc, &found, threads, out, teller.err);
             let accepted = &compiled.accepted;
-            tell_asked_ends(alloc, text, accepted, questions.threads, &found, teller);
+            tell_asked_ends(alloc, text, accepted, threads, &found, teller);
             status
         }
         Err(fault) => teller.refuse_order(fault),

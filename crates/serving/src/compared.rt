@@ -97,13 +97,22 @@ fn compare_text<A: Allocator + Copy, Q: Read + Drop, W: Write, E: Write>(
         (W.contents out.new) }
 {
     let limits = Limits {
-        threads: comparison.threads,
+        threads: comparison.threads.first,
         steps: comparison.steps,
         limit: comparison.limit,
         memory: comparison.memory,
     };
     match &comparison.against {
-        Against::Refined { file } => refine(alloc, limits, text, file.as_str(), other, out, teller),
+        Against::Refined { file } => refine(
+            alloc,
+            limits,
+            comparison.threads.last,
+            text,
+            file.as_str(),
+            other,
+            out,
+            teller,
+        ),
         Against::Expected { file } => expect(
             alloc,
             limits,

@@ -1,6 +1,6 @@
 //! Whether each outcome of one program is one of another's.
 
-ghost use Rattle.std.specs.Prelude.{◌≡◌, ◌≢◌, ◌≤◌, ◌⊎◌, [], IfErr, IfOk, IfSome, is_some, length, map, true, Some};
+ghost use Rattle.std.specs.Prelude.{◌≡◌, ◌≢◌, ◌≤◌, ◌⊎◌, ◌-◌, [], IfErr, IfOk, IfSome, is_some, length, map, true, Some};
 ghost use Rattle.syntax.specs.Views.{program_of};
 ghost use Rattle.refinements.specs.Told as spec;
 ghost use Rattle.report.specs.Views.{reported_of};
@@ -10,12 +10,12 @@ ghost use Rattle.serving.specs.Outcomes.{AreOutcomesOf};
 ghost use Rattle.serving.specs.Refusals.{span_of_source};
 ghost use Rattle.serving.specs.Refines.{SaysRefined, SaysRefines, ShowsBeyond, ShowsOther};
 ghost use Rattle.serving.specs.inner.Compared.{SaysShown, ShowsUnshown};
-ghost use Rattle.serving.specs.inner.Serves.{PrintsEither, ServesEither};
+ghost use Rattle.serving.specs.inner.Serves.{PrintsEither, PrintsEitherInTurn, ServesEitherInTurn};
 
 use crate::compared::{Limits, is_whole, tell_stopped};
 use crate::files::text_of;
 use crate::listed_ends::write_order;
-use crate::print::{REFUSED, REFUTED, STOPPED, print, print_text};
+use crate::print::{ENDED, REFUSED, REFUTED, STOPPED, print, print_text};
 use crate::program::{Compiled, SourceFault, compile};
 use crate::request::bytes_of_memory;
 use crate::tell::{Teller, cannot_write, out_of_memory};
@@ -27,24 +27,25 @@ use report::ReportedOrder;
 use std::alloc::Allocator;
 use std::io::{Read, Write};
 
-/// Says whether each outcome of a source's text is one of the program's in a file, which is read next.
+/// Says whether each outcome of a source's text is one of the program's in a file, which is read next: for one number
+/// of threads after another, from that of the limits to the last, up to the first whose status is not 0.
 pub(crate) fn refine<A: Allocator + Copy, Q: Read + Drop, W: Write, E: Write>(
     alloc: A,
     limits: Limits,
+    last: u32,
     text: &str,
     name: &str,
     other: Q,
     out: &mut W,
     teller: &mut Teller<'_, E>,
 ) -> u8
-    ensures { ServesEither (SaysRefined name.now limits.threads text.now)
-        (ShowsOther name.now limits.threads text.now)
-        (HasNoCode text.now ⊎ IfSome (Q.remaining other) (λ bytes. HasNoCode bytes)) (Q.remaining other) result
-        (W.contents out.old) (W.contents out.new) }
+    ensures { ServesEitherInTurn (λ n. SaysRefined name.now n text.now) (λ n. ShowsOther name.now n text.now)
+        (HasNoCode text.now ⊎ IfSome (Q.remaining other) (λ bytes. HasNoCode bytes)) (last - limits.threads)
+        limits.threads (Q.remaining other) result (W.contents out.old) (W.contents out.new) }
 {
     let mut told = Teller::new(teller.err, teller.detail.of_file(name));
     match text_of(alloc, other, &mut told) {
-        Ok(other) => refine_text(alloc, limits, text, name, other.as_str(), out, teller),
+        Ok(other) => refine_text(alloc, limits, last, text, name, other.as_str(), out, teller),
         Err(status) => tell_whose(status, name, teller),
     }
 }
@@ -53,19 +54,20 @@ pub(crate) fn refine<A: Allocator + Copy, Q: Read + Drop, W: Write, E: Write>(
 fn refine_text<A: Allocator + Copy, W: Write, E: Write>(
     alloc: A,
     limits: Limits,
+    last: u32,
     text: &str,
     name: &str,
     other: &str,
     out: &mut W,
     teller: &mut Teller<'_, E>,
 ) -> u8
-    ensures { ServesEither (SaysRefined name.now limits.threads text.now)
-        (ShowsOther name.now limits.threads text.now) (HasNoCode text.now ⊎ HasNoCode other.now) (Some other.now)
-        result (W.contents out.old) (W.contents out.new) }
+    ensures { ServesEitherInTurn (λ n. SaysRefined name.now n text.now) (λ n. ShowsOther name.now n text.now)
+        (HasNoCode text.now ⊎ HasNoCode other.now) (last - limits.threads) limits.threads (Some other.now) result
+        (W.contents out.old) (W.contents out.new) }
 {
     match compile(alloc, text) {
         Ok(this) => match compile(alloc, other) {
-            Ok(that) => refine_programs(alloc, limits, &this, name, &that, out, teller),
+            Ok(that) => refine_in_turn(alloc, limits, last, &this, name, &that, out, teller),
             Err(fault) => refuse_other(alloc, other, fault, name, teller),
         },
         Err(fault) => teller.refuse(alloc, text, fault),
@@ -87,6 +89,35 @@ fn refuse_other<A: Allocator + Copy, E: Write>(
     let mut told = Teller::new(teller.err, teller.detail.of_file(name));
     let status = told.refuse(alloc, text, fault);
     tell_whose(status, name, teller)
+}
+
+/// Says whether each outcome of a program is one of another's, for one number of threads after another.
+fn refine_in_turn<A: Allocator + Copy, W: Write, E: Write>(
+    alloc: A,
+    limits: Limits,
+    last: u32,
+    this: &Compiled<A>,
+    name: &str,
+    that: &Compiled<A>,
+    out: &mut W,
+    teller: &mut Teller<'_, E>,
+) -> u8
+    requires code { IsCodeOf (program_of this.now.accepted.safe.typed.unit) this.now.code }
+    requires other_code { IsCodeOf (program_of that.now.accepted.safe.typed.unit) that.now.code }
+    ensures { PrintsEitherInTurn (λ n. SaysRefines name.now n (program_of this.now.accepted.safe.typed.unit)
+        (program_of that.now.accepted.safe.typed.unit)) (λ n. ShowsBeyond name.now n
+        (program_of this.now.accepted.safe.typed.unit) (program_of that.now.accepted.safe.typed.unit))
+        (last - limits.threads) limits.threads result (W.contents out.old) (W.contents out.new) }
+{
+    let mut each = limits;
+    'numbers: while each.threads < last {
+        let status = refine_programs(alloc, each, this, name, that, out, teller);
+        if status != ENDED {
+            return status;
+        }
+        each.threads += 1;
+    }
+    refine_programs(alloc, each, this, name, that, out, teller)
 }
 
 /// Says whether each outcome of a program is one of another's.

@@ -305,6 +305,13 @@ fn first_transcripts() -> &'static [Transcript] {
             b"== not alone --order 0,1,0,0,1,1\n== thread 0: waits\n== thread 1: waits\n== memory\ntaken = 1\ninside = 2\nentered = 0\ntxc: each property has its answer, so the search stopped; --keep-going continues it\n",
         ),
         (
+            "txc outcomes examples/properties/lock.c --threads 2..4 --always alone",
+            b"// A lock made of transactions: one transaction tests it and takes it. Inside, a thread counts itself in and out.\nint taken, inside, entered;\n\nint alone(void) { return inside <= 1; }\n\nvoid worker(int self) {\n    int mine = 0;\n    while (!mine) {\n        __transaction_atomic { mine = !taken; if (mine) taken = 1; }\n    }\n    __transaction_atomic { inside = inside + 1; }\n    __transaction_atomic { inside = inside - 1; entered = entered + 1; }\n    __transaction_atomic { taken = 0; }\n}\n",
+            b"",
+            b"",
+            b"== always alone: states 16, threads: 2\n== always alone: states 44, threads: 3\n== always alone: states 112, threads: 4\n",
+        ),
+        (
             "txc outcomes examples/properties/philosophers.c --threads 3 --always neighbours_wait",
             b"// Philosophers, each with a fork to the left and one to the right, who take both in one transaction and put both back.\nint taken[3], eating[3], meals;\n\nint neighbours_wait(void) {\n    return !(eating[0] && eating[1]) && !(eating[1] && eating[2]) && !(eating[2] && eating[0]);\n}\n\nvoid worker(int self) {\n    int mine = 0, left = self % 3, right = (self + 1) % 3;\n    while (!mine) {\n        __transaction_atomic {\n            mine = !taken[left] && !taken[right];\n            if (mine) { taken[left] = 1; taken[right] = 1; }\n        }\n    }\n    __transaction_atomic { eating[left] = 1; }\n    __transaction_atomic { eating[left] = 0; meals = meals + 1; }\n    __transaction_atomic { taken[left] = 0; taken[right] = 0; }\n}\n",
             b"",
@@ -361,6 +368,13 @@ fn first_transcripts() -> &'static [Transcript] {
             b"== always no_seat_twice: states 9, threads: 2\n",
         ),
         (
+            "txc outcomes examples/properties/seats_broken.c --threads 2..4 --always no_seat_twice",
+            b"// Two seats, and buyers who check in one transaction and buy in the next: three of them can buy three seats.\nint seats = 2, sold;\n\nint no_seat_twice(void) { return sold + seats == 2 && seats >= 0; }\n\nvoid worker(int self) {\n    int free;\n    __transaction_atomic { free = seats > 0; }\n    if (free) {\n        __transaction_atomic {\n            seats = seats - 1;\n            sold = sold + 1;\n        }\n    }\n}\n",
+            b"",
+            b"",
+            b"== always no_seat_twice: states 9, threads: 2\n== not no_seat_twice --order 0,0,1,2,1,2\n== thread 0: ended\n== thread 1: ended\n== thread 2: ended\n== memory\nseats = -1\nsold = 3\ntxc: each property has its answer, so the search stopped; --keep-going continues it\n",
+        ),
+        (
             "txc certify examples/hashset.c --threads 2 --order-file examples/orders/hashset.txt --report examples/orders/hashset.out",
             b"// A set of numbers in a table of 16 places, without a lock of its own: each insertion is one step.\nint place[16], count;\n\nint insert(int key) {\n    int at = key * 7 & 15, added = 0;\n    __transaction_atomic {\n        while (place[at] != 0 && place[at] != key) at = at + 1 & 15;\n        if (place[at] == 0) {\n            place[at] = key;\n            count = count + 1;\n            added = 1;\n        }\n    }\n    return added;\n}\n\nvoid worker(int self) {\n    int i, added = 0;\n    for (i = 1; i <= 4; i++) added = added + insert(i * (self + 1));\n    printf(\"%d added\\n\", added);\n}\n",
             b"0,1,0,1,0,1,0,1\n",
@@ -381,6 +395,12 @@ fn first_transcripts() -> &'static [Transcript] {
             b"",
             b"accepted\n",
         ),
+    ];
+    &ROWS
+}
+
+fn second_transcripts() -> &'static [Transcript] {
+    static ROWS: [Transcript; 18] = [
         (
             "txc check examples/refused/bare.c",
             b"int x;\nvoid worker(int self) { x = 1; }\n",
@@ -395,12 +415,6 @@ fn first_transcripts() -> &'static [Transcript] {
             b"",
             b"{\"file\":\"examples/refused/bare.c\",\"line\":2,\"column\":25,\"end_line\":2,\"end_column\":26,\"fault\":50,\"message\":\"shared access outside a transaction\",\"notes\":[\"put it in __transaction_atomic { .. }, or an expression in __transaction_atomic ( .. )\"]}\n",
         ),
-    ];
-    &ROWS
-}
-
-fn second_transcripts() -> &'static [Transcript] {
-    static ROWS: [Transcript; 18] = [
         (
             "txc check examples/refused/bare.c --format short",
             b"int x;\nvoid worker(int self) { x = 1; }\n",
@@ -513,6 +527,12 @@ fn second_transcripts() -> &'static [Transcript] {
             b"",
             b"== outcome --order 0,0,1\n== thread 0: ended\n== thread 1: ended\n160\n== memory\nchecking = 70\nsavings = 90\n== outcome --order 0,1,0\n== thread 0: ended\n== thread 1: ended\n110\n== memory\nchecking = 70\nsavings = 90\n== outcomes: 2, stuck: 0, states: 8, threads: 2\n",
         ),
+    ];
+    &ROWS
+}
+
+fn third_transcripts() -> &'static [Transcript] {
+    static ROWS: [Transcript; 18] = [
         (
             "txc outcomes examples/audit_mended.c --threads 2",
             b"// Thread 0 moves 50 in one transaction, so thread 1 always finds all of the money.\nint checking = 120, savings = 40;\n\nvoid worker(int self) {\n    int total;\n    if (self == 0) {\n        __transaction_atomic {\n            checking = checking - 50;\n            savings = savings + 50;\n        }\n    } else {\n        __transaction_atomic { total = checking + savings; }\n        printf(\"%d\\n\", total);\n    }\n}\n",
@@ -527,12 +547,6 @@ fn second_transcripts() -> &'static [Transcript] {
             b"",
             b"== outcome --order 0,0,0,1,1,1\n== thread 0: ended\n== thread 1: ended\n== memory\nx = 6\n== outcomes: 1, stuck: 0, states: 16, threads: 2\n",
         ),
-    ];
-    &ROWS
-}
-
-fn third_transcripts() -> &'static [Transcript] {
-    static ROWS: [Transcript; 18] = [
         (
             "txc outcomes examples/locks.c --threads 2",
             b"// Two locks, which the threads take in opposite orders: each can hold one and wait for the other.\nint locked[2], done;\n\nvoid take(int which) {\n    int mine = 0;\n    while (!mine) {\n        __transaction_atomic { mine = !locked[which]; if (mine) locked[which] = 1; }\n    }\n}\n\nvoid worker(int self) {\n    take(self);\n    take(1 - self);\n    __transaction_atomic { done = done + 1; locked[0] = 0; locked[1] = 0; }\n}\n",
@@ -645,6 +659,12 @@ fn third_transcripts() -> &'static [Transcript] {
             b"",
             b"== events\n9 1 commit\n12 0 abort\n== thread 0: running\n== thread 1: running\n== memory\nx = 1\ntxc: thread 0: running at 7:9\n        __transaction_atomic { x = x + 1; }\n        ^^^^^^^^^^^^^^^^^^^^\ntxc: thread 1: running at 6:24\n    for (i = 0; i < 3; i++) {\n                       ^\n",
         ),
+    ];
+    &ROWS
+}
+
+fn fourth_transcripts() -> &'static [Transcript] {
+    static ROWS: [Transcript; 18] = [
         (
             "txc replay examples/counter.c --threads 2 --seed 10 --steps 6 --print-schedule",
             b"// Each thread adds one, three times. No addition is lost, however the threads interleave.\nint x;\n\nvoid worker(int self) {\n    int i;\n    for (i = 0; i < 3; i++) {\n        __transaction_atomic { x = x + 1; }\n    }\n}\n",
@@ -659,12 +679,6 @@ fn third_transcripts() -> &'static [Transcript] {
             b"",
             b"== events\n3 0 commit\n18 0 commit\n24 0 commit\n39 0 commit\n42 0 commit\n45 0 commit\n45 1 commit\n48 1 commit\n51 1 commit\n54 1 commit\n== thread 0: ended\n2 taken, 0 left\n== thread 1: ended\n0 taken, 0 left\n== memory\nqueue = 7 9\nhead = 2\ntotal = 16\n",
         ),
-    ];
-    &ROWS
-}
-
-fn fourth_transcripts() -> &'static [Transcript] {
-    static ROWS: [Transcript; 18] = [
         (
             "txc replay examples/first.c --seed 1 --steps 17 --timeline",
             b"int x = 40, y; void worker(int self) { __transaction_atomic { x = x + 2; y = x - 1; } }\n",
@@ -777,6 +791,12 @@ fn fourth_transcripts() -> &'static [Transcript] {
             b"",
             b"== thread 0: ended\n== thread 1: ended\n== memory\nx = 6\n",
         ),
+    ];
+    &ROWS
+}
+
+fn fifth_transcripts() -> &'static [Transcript] {
+    static ROWS: [Transcript; 9] = [
         (
             "txc source examples/counter.c --threads 2 --order 0,1,1",
             b"// Each thread adds one, three times. No addition is lost, however the threads interleave.\nint x;\n\nvoid worker(int self) {\n    int i;\n    for (i = 0; i < 3; i++) {\n        __transaction_atomic { x = x + 1; }\n    }\n}\n",
@@ -791,12 +811,6 @@ fn fourth_transcripts() -> &'static [Transcript] {
             b"",
             b"== thread 0: ended\n1543209862 dollars, 65 cents\n1033830044 dollars, 70 cents\n791526127 dollars, 98 cents\n== thread 1: ended\n1350308629 dollars, 82 cents\n1181520051 dollars, 9 cents\n904601289 dollars, 12 cents\n== memory\nfund = 554068289587\npaid = 680499600536\npayments = 6\n",
         ),
-    ];
-    &ROWS
-}
-
-fn fifth_transcripts() -> &'static [Transcript] {
-    static ROWS: [Transcript; 7] = [
         (
             "txc source examples/hashset.c --threads 2 --order 0,1,0,1,0,1,0,1",
             b"// A set of numbers in a table of 16 places, without a lock of its own: each insertion is one step.\nint place[16], count;\n\nint insert(int key) {\n    int at = key * 7 & 15, added = 0;\n    __transaction_atomic {\n        while (place[at] != 0 && place[at] != key) at = at + 1 & 15;\n        if (place[at] == 0) {\n            place[at] = key;\n            count = count + 1;\n            added = 1;\n        }\n    }\n    return added;\n}\n\nvoid worker(int self) {\n    int i, added = 0;\n    for (i = 1; i <= 4; i++) added = added + insert(i * (self + 1));\n    printf(\"%d added\\n\", added);\n}\n",

@@ -26,6 +26,8 @@ mod places;
 #[cfg(test)]
 mod properties;
 #[cfg(test)]
+mod ranges;
+#[cfg(test)]
 mod refusals;
 #[cfg(test)]
 mod served;

@@ -13,6 +13,7 @@ use Rattle.serving.specs.Answers.{Answers}
 use Rattle.serving.specs.Certified.{CertifiesReport, SaysSo, ShowsDifference, WritesVerdict}
 use Rattle.serving.specs.Compared.{ComparesOutcomes, HaveNoCode, WritesComparison}
 use Rattle.serving.specs.Expected.{SaysExpected, ShowsUnexpected}
+use Rattle.serving.specs.InTurn.{AreTextsInTurn, SaysInTurn}
 use Rattle.serving.specs.Limits.{HasNoCode}
 use Rattle.serving.specs.Properties.{AnswersQuestions, IsTextOfProperties, IsToldOf, TellsProperties}
 use Rattle.serving.specs.Refusals.{IsRefused}
@@ -79,6 +80,15 @@ ServesEither IsSo IsNot Refuses bytes status old new =
     Serves 5 (λ s o n. IfSome bytes (λ other. Tells (IsSo other) (IsNot other) s o n)) Refuses
     (λ o n. IfSome bytes (λ other. WritesPart (IsEither (IsSo other) (IsNot other)) o n)) status old new
 
+-- for a number of threads and so many after it
+abbrev pub ServesEitherInTurn : (IsSo IsNot : (threads : ℕ) → List ℕ → List ℕ → Type 0) → (Refuses : Type 0) →
+    (more threads : ℕ) → (bytes : Option (List ℕ)) → (status : ℕ) → (old new : Option (List ℕ)) → Type 0
+ServesEitherInTurn IsSo IsNot Refuses more threads bytes status old new =
+    Serves 5 (λ s o n. IfSome bytes (λ other.
+    SaysInTurn (λ k t b a. Tells (IsSo k other) (IsNot k other) t b a) more threads s o n)) Refuses
+    (λ o n. IfSome bytes (λ other.
+    WritesPart (AreTextsInTurn (λ k w. IsEither (IsSo k other) (IsNot k other) w) more threads) o n)) status old new
+
 -- whether they are a list of all outcomes, or where they differ from one
 abbrev pub ServesExpected : (IsWhole : List ℕ → Type 0) → (Refuses : Type 0) → (bytes : Option (List ℕ)) →
     (status : ℕ) → (old new : Option (List ℕ)) → Type 0
@@ -111,3 +121,23 @@ abbrev pub PrintsProperties : (threads : ℕ) → (AreFound : WalkEnd → List P
     (status : ℕ) → (old new : Option (List ℕ)) → Type 0
 PrintsProperties threads AreFound status old new =
     Serves 5 (TellsProperties threads AreFound) ⊥ (WritesPart (IsTextOfProperties threads AreFound)) status old new
+
+-- likewise, for a number of threads and so many after it, one after another
+abbrev pub PrintsInTurn : (most : ℕ) → (Says : (threads status : ℕ) → (old new : Option (List ℕ)) → Type 0) →
+    (IsText : (threads : ℕ) → List ℕ → Type 0) → (more threads status : ℕ) → (old new : Option (List ℕ)) → Type 0
+PrintsInTurn most Says IsText more threads status old new =
+    Serves most (SaysInTurn Says more threads) ⊥ (WritesPart (AreTextsInTurn IsText more threads)) status old new
+
+-- verdicts
+abbrev pub PrintsEitherInTurn : (IsSo IsNot : (threads : ℕ) → List ℕ → Type 0) → (more threads status : ℕ) →
+    (old new : Option (List ℕ)) → Type 0
+PrintsEitherInTurn IsSo IsNot more threads status old new =
+    PrintsInTurn 5 (λ k s o n. Tells (IsSo k) (IsNot k) s o n) (λ k written. IsEither (IsSo k) (IsNot k) written) more
+    threads status old new
+
+-- findings about properties
+abbrev pub PrintsPropertiesInTurn : (AreFound : (threads : ℕ) → WalkEnd → List Property → List ReportedOrder → Type 0) →
+    (more threads status : ℕ) → (old new : Option (List ℕ)) → Type 0
+PrintsPropertiesInTurn AreFound more threads status old new =
+    PrintsInTurn 5 (λ k s o n. TellsProperties k (AreFound k) s o n)
+    (λ k written. IsTextOfProperties k (AreFound k) written) more threads status old new

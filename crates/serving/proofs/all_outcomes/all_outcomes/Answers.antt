@@ -1,23 +1,19 @@
-use Rattle.std.proofs.Common.{[], map, subst}
-use Rattle.std.specs.Io.KnownBytes.{Appends}
-use Rattle.report.specs.OutcomeList.{list_text}
-use Rattle.report.specs.Views.{reported_of}
-use Rattle.serving.specs.Outcomes.{AreOutcomesOfText}
-use Rattle.serving.proofs.ListedOutcomes.{not_stopped}
-use Rattle.serving.proofs.Parts.{part_so}
+use Rattle.std.proofs.Common.{◌-◌, inl, refl}
+use Rattle.serving.specs.Outcomes.{PrintsOutcomes}
+use Rattle.serving.proofs.InTurn.{stops}
 use Rattle.serving.proofs.Printing.{serves_so}
+use Rattle.serving.proofs.Refusals.{neither}
 use Rattle.serving.proofs.all_outcomes.all_outcomes.Goals as goal
 
 pub returns-in-Ok : goal.returns-in-Ok
-returns-in-Ok g c =
-    let found = c.in-Ok.found in
-    let outcomes = map reported_of found.outcomes.items in
-    serves_so c.print_outcomes-status.ensures
-    (λ says status.
-    let printed = says (not_stopped c.print_outcomes-status.result status) in
-    let are = subst (λ s. AreOutcomesOfText c.args.threads c.args.text.now found.end outcomes s) printed.1 c.in-Ok.ensures.are in
-    let all = subst (λ e. AreOutcomesOfText c.args.threads c.args.text.now e outcomes []) printed.0 are in
-    let shown = subst (λ s. Appends (g.W.Write.contents c.args.out.now) (g.W.Write.contents c.print_outcomes-status.new.out) (list_text outcomes s found.states c.args.threads found.end)) printed.1 printed.3 in
-    let text = subst (λ e. Appends (g.W.Write.contents c.args.out.now) (g.W.Write.contents c.print_outcomes-status.new.out) (list_text outcomes [] found.states c.args.threads e)) printed.0 shown in
-    (outcomes, found.states, all, printed.2, text))
-    (λ part. part_so _ _ _ _ (λ text e. (found.end, (outcomes, map reported_of found.stuck.items, found.states, c.in-Ok.ensures.are, e))) part)
+returns-in-Ok g c = serves_so c.list_in_turn.ensures (λ says. says) (λ writes. writes)
+
+pub returns-in-Err : goal.returns-in-Err
+returns-in-Err g c = record {
+  within = c.refuse.ensures.within;
+  answers = stops (λ k t b a. PrintsOutcomes k c.args.text.now t b a) (c.args.range.last - c.args.range.first) c.args.range.first c.refuse.result _ _ c.refuse.ensures.not_ended
+      (λ e. absurd (neither c.refuse.result c.refuse.ensures.not_ended c.refuse.ensures.not_trapped e));
+  refused = λ one. (c.in-Err.fault, c.in-Err.ensures.err, c.refuse.ensures.refused one);
+  written = inl refl;
+  untouched = λ one. refl;
+}

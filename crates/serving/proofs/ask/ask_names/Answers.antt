@@ -29,11 +29,11 @@ returns-in-Ok-clause-prints g c =
     let p = program_of c.args.compiled.now.accepted.safe.typed.unit in
     let names = asked_each false (map (λ n. n.now) c.args.always.now) ++ asked_each true (map (λ n. n.now) c.args.last.now) in
     let askable = both_askable p (map (λ n. n.now) c.args.always.now) (map (λ n. n.now) c.args.last.now) always last in
-    let are = subst (λ s. AreFoundOf p c.args.questions.now.threads s names found.end (map property_of found.properties.items) (map reported_of found.stuck.items)) c.extent_of.ensures c.in-Ok.ensures.found in
+    let are = subst (λ s. AreFoundOf p c.args.threads s names found.end (map property_of found.properties.items) (map reported_of found.stuck.items)) c.extent_of.ensures c.in-Ok.ensures.found in
     prints_so _ _ _ (these_so found.end (map property_of found.properties.items) (map reported_of found.stuck.items) _ (askable, are)) c.print_found-status.result _ _ c.print_found-status.ensures.prints
 
 pub returns-in-Err-clause-prints : goal.returns-in-Err-clause-prints
 returns-in-Err-clause-prints g c = refused_prints _ c.refuse_order.result _ _ c.refuse_order.ensures.status refl
 
 pub returns-in-Err-clause-unaskable : goal.returns-in-Err-clause-unaskable
-returns-in-Err-clause-unaskable g c = λ two. absurd (not_unusable c.args.questions.now.threads c.in-Err.fault c.refuse_order.result c.in-Err.ensures.err c.refuse_order.ensures.memory c.refuse_order.ensures.threads two)
+returns-in-Err-clause-unaskable g c = λ two. absurd (not_unusable c.args.threads c.in-Err.fault c.refuse_order.result c.in-Err.ensures.err c.refuse_order.ensures.memory c.refuse_order.ensures.threads two)
