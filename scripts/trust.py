@@ -29,7 +29,7 @@ WORD = re.compile(r"[^\s(){}\[\],;]+")
 # Where the toolchain has the libraries of its logic.
 LIBRARIES = {"lib": "logic/Lib", "mathlib": "antt/port/mathlib/src"}
 
-# What txc promises, and the definitions of `crates/serving/specs` with which each promise begins: the clauses of
+# What txc promises, and the definitions of `serving` and `system` with which each promise begins: the clauses of
 # `serve`, or the laws in `crates/serving/src/laws.rt`, name these.
 PROMISES = (
     ("`txc check`", "SaysAccepted"),
@@ -447,19 +447,24 @@ def first_sentence(file):
 
 
 def promised(names):
-    """The definitions of `serving` that say a promise: names that its clauses or its answers have."""
-    specs, code = f"{TOP}/crates/serving/specs", f"{TOP}/crates/serving/src"
-    cited_there = "".join(read(f"{code}/{it}") for it in sorted(os.listdir(code)))
-    said = words_of(read(f"{specs}/Answers.antt") + cited_there)
+    """The definitions of `serving` and `system` that say a promise: names that their clauses or answers have."""
+    places = [(f"crates/{crate}/specs", f"{TOP}/crates/{crate}/src") for crate in ("serving", "system")]
+    cited_there = "".join(read(f"{code}/{it}") for _, code in places for it in sorted(os.listdir(code)))
+    said = words_of(read(f"{TOP}/crates/serving/specs/Answers.antt") + cited_there)
     out = set()
     for name in names.split():
         if name not in said:
-            sys.exit(f"no clause of serving cites {name}")
+            sys.exit(f"no clause of serving or system cites {name}")
         found = set().union(
-            *(item_at(f"crates/serving/specs/{it}", [name]) for it in sorted(os.listdir(specs)) if it.endswith(".antt"))
+            *(
+                item_at(f"{specs}/{it}", [name])
+                for specs, _ in places
+                for it in sorted(os.listdir(f"{TOP}/{specs}"))
+                if it.endswith(".antt")
+            )
         )
         if not found:
-            sys.exit(f"no definition of serving has the name {name}")
+            sys.exit(f"no definition of serving or system has the name {name}")
         out |= found
     return out
 

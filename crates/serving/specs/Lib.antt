@@ -54,7 +54,5 @@ pub mod Properties
 pub mod Answers
 -- the files that a request names
 pub mod Files
--- the response to words
-pub mod Words
 -- definitions for private functions alone
 pub mod inner

@@ -161,7 +161,7 @@ fn open_schedule<H: Threads + Wait + Sync, F: Files, R: Read + Drop, W: Write, E
 }
 
 /// The name of the schedule that a task reads, if it reads one.
-fn schedule_of(task: &Task) -> Option<&str>
+pub fn schedule_of(task: &Task) -> Option<&str>
     ensures { option_map (λ s. s.now) result ≡ schedule_of task.now }
 {
     match task {
@@ -216,7 +216,7 @@ pub enum SourceText<A: Allocator = Global> {
 }
 
 /// Reads to the end, or to one byte past the most that a source may have.
-fn read_bytes<A: Allocator, R: Read + Drop>(alloc: A, source: R) -> io::Result<Vec<u8, A>>
+pub fn read_bytes<A: Allocator, R: Read + Drop>(alloc: A, source: R) -> io::Result<Vec<u8, A>>
     ensures { IfOk result (λ v. IfSome (R.remaining source) (λ bytes. v.items ≡ take BEYOND_MOST_BYTES bytes)) }
 {
     let mut bytes = Vec::new(alloc);

@@ -35,10 +35,9 @@ mod source;
 mod tell;
 mod timed;
 mod walked;
-mod words;
 
 pub use all_outcomes::list_outcomes;
-pub use files::{Files, SourceText, read_source, serve_files};
+pub use files::{Files, SourceText, read_bytes, read_source, schedule_of, serve_files};
 pub use listing::list_source;
 pub use program::{Compiled, SourceFault, compile};
 pub use replays::{Replayed, lines_shown, replay_code};
@@ -48,4 +47,3 @@ pub use source::{OrderFault, run_in_order};
 pub use tell::{Detail, Teller, tell_usage, unread_words};
 pub use timed::Timed;
 pub use walked::OutcomesFound;
-pub use words::serve_words;

@@ -1,12 +1,13 @@
 //! Which files are opened for the words of a command line, and what is said of those that are not.
 
-use serving::{Files, serve_words};
+use serving::Files;
 use std::alloc::Global;
 use std::io;
 use std::io::{ErrorKind, IsTerminal, Read, Write};
 use std::sync::Wait;
 use std::thread::Threads;
 use std::time::Clock;
+use system::serve_words;
 use test_serving::{ADDS, ServeResult};
 
 /// What is found of a file's name: the bytes of the file, or why it is not opened.
@@ -245,7 +246,7 @@ pub(crate) fn answer_line<H: Threads + Wait + Clock + Sync, W: Write>(
     told: &mut Told,
 ) -> Option<u8> {
     let words: Vec<&str> = line.split(' ').collect(alloc).ok()?;
-    Some(serve_words(rt, alloc, words.as_slice(), files, out, told))
+    Some(serve_words(rt, alloc, words.as_slice(), files, out, told).status)
 }
 
 /// Whether a row is answered as it should be.

@@ -1,53 +1,85 @@
 //! The program: reads its words, and does what they ask with files of the system.
 #![tactic(auto)]
 
-ghost use Rattle.std.specs.Prelude.{None};
+ghost use Rattle.std.specs.Prelude.{◌≡◌, ◌≤◌, [], IfOk, None, Some, map, string_bytes};
+ghost use Rattle.std.specs.Io.KnownBytes.{Appends};
+ghost use Rattle.system.specs.Kept.{AreReadFrom, kept_in};
+ghost use Rattle.system.specs.Words.{AnswersWords};
 
-use serving::{Files, serve_words, unread_words};
-use std::alloc::AllocError;
+use serving::{Files, unread_words};
+use std::alloc::{AllocError, Global};
 use std::fs::File;
-use std::io::{ErrorKind, Read, Stdin};
+use std::io::{ErrorKind, IsTerminal, Read, Stdin, Write};
 use std::process::ExitCode;
 use std::sync::Wait;
 use std::thread::Threads;
 use std::time::Clock;
 use std::{env, io};
+use system::{Answer, Sent, serve_words};
 
 fn main(rt: HostRuntime) -> ExitCode {
-    ExitCode::from(answer(&rt, &rt))
+    let files = SystemFiles { rt: &rt };
+    let status = match words_given(&rt) {
+        Ok(words) => {
+            let words = words.as_slice();
+            answer(
+                &rt,
+                rt.alloc(),
+                words,
+                &files,
+                rt.stdout(),
+                &mut rt.stderr(),
+            )
+            .status
+        }
+        Err(kind) => unread_words(kind, &mut rt.stderr()),
+    };
+    ExitCode::from(status)
 }
 
-/// Reads the command line and does what it asks; `handle` starts threads and waits for them. Gives the exit status.
-fn answer<H: Threads + Wait + Clock + Sync>(rt: &HostRuntime, handle: &H) -> u8 {
+/// The words of the command line.
+fn words_given(rt: &HostRuntime) -> Result<Vec<String>, ErrorKind> {
     match env::args(rt) {
         Ok(words) => match words.collect(rt.alloc()) {
-            Ok(words) => answer_words(rt, handle, words),
-            Err(AllocError) => unread_words(ErrorKind::OutOfMemory, &mut rt.stderr()),
+            Ok(words) => Ok(words),
+            Err(AllocError) => Err(ErrorKind::OutOfMemory),
         },
-        Err(error) => unread_words(error.kind(), &mut rt.stderr()),
+        Err(error) => Err(error.kind()),
     }
 }
 
-/// Does what words ask, with the files of the system and the standard streams.
-fn answer_words<H: Threads + Wait + Clock + Sync>(
-    rt: &HostRuntime,
-    handle: &H,
-    words: Vec<String>,
-) -> u8 {
-    let words: Result<Vec<&str>, AllocError> = words
-        .iter()
-        .map(|word| word.as_str())
-        .collect(rt.alloc());
-    match words {
-        Ok(words) => serve_words(
-            handle,
-            rt.alloc(),
-            words.as_slice(),
-            &SystemFiles { rt },
-            &mut rt.stdout(),
-            &mut rt.stderr(),
-        ),
-        Err(AllocError) => unread_words(ErrorKind::OutOfMemory, &mut rt.stderr()),
+/// Words, as slices of their bytes.
+fn lent<'w>(alloc: Global, words: &'w [String]) -> Result<Vec<&'w str>, AllocError>
+    ensures { IfOk result (λ v. map (λ w. w.now) v.items ≡ map string_bytes words.now) }
+{
+    let mut all = Vec::new(alloc);
+    'words: for word in words {
+        all.push(word.as_str())?;
+    }
+    Ok(all)
+}
+
+/// Does what words ask, over files and two writers: the exit status, what was printed, and the files that were read.
+fn answer<
+    H: Threads + Wait + Clock + Sync,
+    F: Files,
+    W: Write + Drop,
+    E: Write + IsTerminal + Send,
+>(handle: &H, alloc: Global, words: &[String], files: &F, out: W, err: &mut E) -> Answer<W>
+    ensures status { result.status ≤ 5 }
+    ensures answer { AnswersWords (map string_bytes words.now) (kept_in result.files.items) result.status
+        (Some []) (Some result.printed.bytes) }
+    ensures passed { Appends (W.contents out) (W.contents result.out) result.printed.bytes }
+    ensures read { AreReadFrom (F.contents files.now) result.files.items }
+{
+    match lent(alloc, words) {
+        Ok(words) => serve_words(handle, alloc, words.as_slice(), files, out, err),
+        Err(AllocError) => Answer {
+            status: unread_words(ErrorKind::OutOfMemory, err),
+            printed: Sent::new(),
+            files: Vec::new(alloc),
+            out,
+        },
     }
 }
 

@@ -5,7 +5,7 @@ use Rattle.command.specs.declared.request.UsageFault.{UsageFault}
 use Rattle.command.specs.declared.request.UsageFault.TheVariants.{Help, OutOfMemory, Wrong}
 use Rattle.serving.specs.Files.{Contents}
 use Rattle.serving.specs.Usage.{IsHelp, IsWrong}
-use Rattle.serving.specs.Words.{AnswersWords}
+use Rattle.system.specs.Words.{AnswersWords}
 
 untouched_by : {IsNone : Type 0} (old new : Option (List ℕ)) → (IsNone → ⊥) → IsNone ⊎ (new ≡ old) → new ≡ old
 untouched_by old new never (inl is) = absurd (never is)

@@ -1,0 +1,104 @@
+//! What is read of the files that a request names.
+
+use crate::opened::{REPLAY, Told};
+use serving::Files;
+use std::alloc::Global;
+use std::io;
+use std::io::{ErrorKind, Read};
+use std::sync::Wait;
+use std::thread::Threads;
+use std::time::Clock;
+use system::serve_words;
+
+/// What a file gives.
+#[derive(Drop)]
+enum Gives {
+    Bytes(&'static [u8]),
+    /// Blanks without end.
+    Blanks,
+    /// An error at the first read.
+    Error,
+}
+
+impl Read for Gives {
+    fn read(&mut self, buf: &mut [u8]) -> io::Result<usize> {
+        match self {
+            Gives::Bytes(rest) => rest.read(buf),
+            Gives::Blanks => {
+                buf.fill(b' ');
+                Ok(buf.len())
+            }
+            Gives::Error => Err(io::Error::from(ErrorKind::IsADirectory)),
+        }
+    }
+}
+
+/// A file `a.c` with a syntax error, a file `blanks` that does not end, and others that can't be read.
+#[derive(Drop)]
+struct OddFiles {}
+
+impl Files for OddFiles {
+    type File = Gives;
+
+    ghost use Rattle.std.specs.Prelude.{None};
+
+    ghost contents = { λ _ _. None };
+
+    fn open(&self, name: &str) -> io::Result<Gives> {
+        match name {
+            "a.c" => Ok(Gives::Bytes(b"int")),
+            "blanks" => Ok(Gives::Blanks),
+            _ => Ok(Gives::Error),
+        }
+    }
+}
+
+/// The status, what is told, and how many bytes of each file were read.
+fn read_for<H: Threads + Wait + Clock + Sync>(
+    rt: &H,
+    alloc: Global,
+    line: &str,
+) -> Option<(u8, Vec<u8>, Vec<usize>)> {
+    let words: Vec<&str> = line.split(' ').collect(alloc).ok()?;
+    let mut told = Told {
+        bytes: Vec::new(alloc),
+        is_terminal: false,
+    };
+    let out: Vec<u8> = Vec::new(alloc);
+    let answer = serve_words(rt, alloc, words.as_slice(), &OddFiles {}, out, &mut told);
+    let mut counts = Vec::new(alloc);
+    for file in answer.files.as_slice() {
+        counts.push(file.bytes.len()).ok()?;
+    }
+    Some((answer.status, told.bytes, counts))
+}
+
+/// Whether a command line is answered so.
+fn reads<H: Threads + Wait + Clock + Sync>(
+    rt: &H,
+    alloc: Global,
+    line: &str,
+    status: u8,
+    told: &[u8],
+    counts: &[usize],
+) -> bool {
+    match read_for(rt, alloc, line) {
+        Some((found, bytes, read)) => {
+            found == status && bytes.as_slice() == told && read.as_slice() == counts
+        }
+        None => false,
+    }
+}
+
+#[test]
+fn a_source_is_read_until_it_is_too_long(rt: HostRuntime) {
+    let told = b"txc: fault 05 at 1:1: file too long\n".as_slice();
+    let alloc = rt.alloc();
+    assert!(rt; reads(&rt, alloc, "txc check blanks", 1, told, &[1_048_577]));
+}
+
+#[test]
+fn each_file_is_read_before_the_source_is_checked(rt: HostRuntime) {
+    let told = b"txc: cannot read s.txt\n".as_slice();
+    assert!(rt; reads(&rt, rt.alloc(), REPLAY, 2, told, &[]));
+}

@@ -1,0 +1,44 @@
+-- Files that were read, by their names.
+use Rattle.std.specs.Prelude.{◌≡◌, ◌⊎◌, ℕ, true, List, [], ◌∷◌, Some, None, IfSome, bytes_eq, if◌then◌else◌}
+use Rattle.std.specs.Prelude.{is_some, string_bytes, take}
+use Rattle.command.specs.declared.request.Request.{Request}
+use Rattle.command.specs.declared.request.Request.TheVariants.{Program, Certify, Compare, Ask, Explain, ExplainEnd}
+use Rattle.serving.specs.Compared.{name_of}
+use Rattle.serving.specs.Files.{Contents, schedule_of}
+use Rattle.system.specs.declared.kept.KeptFile.{KeptFile}
+
+-- the bytes that were read of the file of each name
+abbrev pub kept_in : List KeptFile → Contents
+kept_in [] name = None
+kept_in (file ∷ files) name =
+    if bytes_eq (string_bytes file.name) name then Some file.bytes.items else kept_in files name
+
+-- a file was read to its end, or up to one byte past the most that a source may have
+abbrev pub IsReadFrom : Contents → KeptFile → Type 0
+IsReadFrom contents file = IfSome (contents (string_bytes file.name))
+    (λ bytes. (file.bytes.items ≡ bytes) ⊎ (file.bytes.items ≡ take 1048577 bytes))
+
+-- each file was read so
+abbrev pub AreReadFrom : Contents → List KeptFile → Type 0
+AreReadFrom contents [] = Unit {0}
+AreReadFrom contents (file ∷ files) = IsReadFrom contents file × AreReadFrom contents files
+
+-- the bytes of the file of this name are known
+abbrev pub IsFileKnown : Contents → List ℕ → Type 0
+IsFileKnown contents name = is_some (contents name) ≡ true
+
+-- the bytes of each file that a request names are known
+abbrev pub AreKnown : Request → Contents → Type 0
+AreKnown (Program file verbose format task) contents =
+    IsFileKnown contents (string_bytes file) × IfSome (schedule_of task) (IsFileKnown contents)
+AreKnown (Certify file verbose format claim) contents = IsFileKnown contents (string_bytes file)
+    × IsFileKnown contents (string_bytes claim.order) × IsFileKnown contents (string_bytes claim.report)
+AreKnown (Compare file verbose format comparison) contents =
+    IsFileKnown contents (string_bytes file) × IsFileKnown contents (name_of comparison.against)
+AreKnown (Ask file verbose format questions) contents = IsFileKnown contents (string_bytes file)
+AreKnown (Explain number) contents = Unit {0}
+AreKnown (ExplainEnd word number) contents = Unit {0}
+
+-- the bytes of each file that are known stay as they are
+abbrev pub StayKnown : (old new : Contents) → Type 0
+StayKnown old new = (name : List ℕ) → IsFileKnown old name → new name ≡ old name

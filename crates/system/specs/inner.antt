@@ -1,0 +1,2 @@
+-- what was recorded
+pub mod Recorded

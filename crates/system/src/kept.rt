@@ -1,0 +1,257 @@
+//! Files that were read, and are kept.
+
+ghost use Rattle.std.specs.Prelude.{◌≡◌, ◌⊎◌, IfErr, IfOk, IfSome, OnOk, option_map, string_bytes, take};
+ghost use Rattle.serving.specs.Compared.{name_of};
+ghost use Rattle.system.specs.Kept.{AreKnown, AreReadFrom, IsFileKnown, IsReadFrom, StayKnown, kept_in};
+
+use command::{Against, Format, Request};
+use serving::{Detail, Files, Teller, read_bytes, schedule_of};
+use std::alloc::Global;
+use std::io;
+use std::io::{ErrorKind, Read, Write};
+
+/// A file that was read.
+#[derive(Drop)]
+pub struct KeptFile {
+    pub name: String,
+    /// What it gave.
+    pub bytes: Vec<u8>,
+}
+
+/// The bytes of the file of a name, if it is kept. Of two with one name the first is taken.
+fn bytes_of<'k>(files: &'k [KeptFile], name: &str) -> Option<&'k [u8]>
+    ensures { option_map (λ s. s.now) result ≡ kept_in files.now name.now }
+{
+    'files: for file in files {
+        if file.name.as_str() == name {
+            return Some(file.bytes.as_slice());
+        }
+    }
+    None
+}
+
+/// Files that are kept, to be opened by their names.
+#[derive(Drop)]
+pub(crate) struct KeptFiles<'k> {
+    pub(crate) files: &'k [KeptFile],
+}
+
+impl<'k> Files for KeptFiles<'k> {
+    type File = &'k [u8];
+
+    ghost contents = { λ kept name. kept_in kept.files.now name };
+
+    fn open(&self, name: &str) -> io::Result<&'k [u8]> {
+        match bytes_of(self.files, name) {
+            Some(bytes) => Ok(bytes),
+            None => Err(io::Error::from(ErrorKind::NotFound)),
+        }
+    }
+}
+
+/// Reads to the end.
+fn read_whole<R: Read + Drop>(alloc: Global, mut file: R) -> io::Result<Vec<u8>>
+    ensures { IfOk result (λ v. IfSome (R.remaining file) (λ bytes. v.items ≡ bytes)) }
+{
+    let mut bytes = Vec::new(alloc);
+    file.read_to_end(&mut bytes)?;
+    Ok(bytes)
+}
+
+/// A file that a request names.
+#[derive(Clone, Copy)]
+struct NamedFile<'n> {
+    name: &'n str,
+    /// Whether it is to be a source. Then no more of it is read than shows that it is too long.
+    is_source: bool,
+    /// Whether the reason is told if it can't be read.
+    verbose: bool,
+}
+
+impl<'n> NamedFile<'n> {
+    /// A source.
+    fn source(name: &'n str, verbose: bool) -> NamedFile<'n>
+        ensures { result.name.now ≡ name.now }
+    {
+        NamedFile {
+            name,
+            is_source: true,
+            verbose,
+        }
+    }
+
+    /// A file of any length.
+    fn whole(name: &'n str, verbose: bool) -> NamedFile<'n>
+        ensures { result.name.now ≡ name.now }
+    {
+        NamedFile {
+            name,
+            is_source: false,
+            verbose,
+        }
+    }
+
+    /// The other side of a comparison.
+    fn against(against: &'n Against, verbose: bool) -> NamedFile<'n>
+        ensures { result.name.now ≡ name_of against.now }
+    {
+        match against {
+            Against::Refined { file } => NamedFile::source(file.as_str(), verbose),
+            Against::Expected { file } => NamedFile::whole(file.as_str(), verbose),
+        }
+    }
+}
+
+/// Reads a file.
+fn read_file<F: Files>(alloc: Global, named: &NamedFile<'_>, files: &F) -> io::Result<KeptFile>
+    ensures name { IfOk result (λ file. string_bytes file.name ≡ named.now.name.now) }
+    ensures bytes { IfOk result (λ file. IsReadFrom (F.contents files.now) file) }
+{
+    let name = String::from_str(alloc, named.name)?;
+    let file = files.open(named.name)?;
+    let bytes = if named.is_source {
+        read_bytes(alloc, file)?
+    } else {
+        read_whole(alloc, file)?
+    };
+    Ok(KeptFile { name, bytes })
+}
+
+/// Reads a file and keeps it, behind those that are kept.
+fn read_into<F: Files>(
+    alloc: Global,
+    named: &NamedFile<'_>,
+    files: &F,
+    kept: &mut Vec<KeptFile>,
+) -> io::Result<()>
+    ensures known { OnOk result (IsFileKnown (kept_in kept.new.items) named.now.name.now) }
+    ensures others { OnOk result (StayKnown (kept_in kept.old.items) (kept_in kept.new.items)) }
+    ensures read { OnOk result (AreReadFrom (F.contents files.now) kept.old.items
+        → AreReadFrom (F.contents files.now) kept.new.items) }
+{
+    let file = read_file(alloc, named, files)?;
+    kept.push(file)?;
+    Ok(())
+}
+
+/// Reads a file and keeps it. If it can't be read, that is told, and the error is then the exit status.
+fn keep<F: Files, E: Write>(
+    alloc: Global,
+    named: &NamedFile<'_>,
+    files: &F,
+    kept: &mut Vec<KeptFile>,
+    err: &mut E,
+) -> Result<(), u8>
+    ensures known { OnOk result (IsFileKnown (kept_in kept.new.items) named.now.name.now) }
+    ensures others { OnOk result (StayKnown (kept_in kept.old.items) (kept_in kept.new.items)) }
+    ensures read { OnOk result (AreReadFrom (F.contents files.now) kept.old.items
+        → AreReadFrom (F.contents files.now) kept.new.items) }
+    ensures status { IfErr result (λ s. (s ≡ 2) ⊎ (s ≡ 4)) }
+{
+    match read_into(alloc, named, files, kept) {
+        Ok(()) => Ok(()),
+        Err(error) => {
+            let detail = Detail::of(named.name, named.verbose, Format::Plain, false);
+            Err(Teller::new(err, detail).not_read(named.name, &error))
+        }
+    }
+}
+
+/// Reads the files that a request names. If one can't be read, that is told, and the error is then the exit status.
+pub(crate) fn keep_files<F: Files, E: Write>(
+    alloc: Global,
+    request: &Request,
+    files: &F,
+    err: &mut E,
+) -> Result<Vec<KeptFile>, u8>
+    ensures known { IfOk result (λ kept. AreKnown request.now (kept_in kept.items)) }
+    ensures read { IfOk result (λ kept. AreReadFrom (F.contents files.now) kept.items) }
+    ensures status { IfErr result (λ s. (s ≡ 2) ⊎ (s ≡ 4)) }
+{
+    let mut kept = Vec::new(alloc);
+    match request {
+        Request::Program {
+            file,
+            verbose,
+            task,
+            ..
+        } => {
+            keep(
+                alloc,
+                &NamedFile::source(file.as_str(), *verbose),
+                files,
+                &mut kept,
+                err,
+            )?;
+            if let Some(name) = schedule_of(task) {
+                keep(
+                    alloc,
+                    &NamedFile::whole(name, *verbose),
+                    files,
+                    &mut kept,
+                    err,
+                )?;
+            }
+        }
+        Request::Certify {
+            file,
+            verbose,
+            claim,
+            ..
+        } => {
+            keep(
+                alloc,
+                &NamedFile::source(file.as_str(), *verbose),
+                files,
+                &mut kept,
+                err,
+            )?;
+            keep(
+                alloc,
+                &NamedFile::whole(claim.order.as_str(), *verbose),
+                files,
+                &mut kept,
+                err,
+            )?;
+            keep(
+                alloc,
+                &NamedFile::whole(claim.report.as_str(), *verbose),
+                files,
+                &mut kept,
+                err,
+            )?;
+        }
+        Request::Compare {
+            file,
+            verbose,
+            comparison,
+            ..
+        } => {
+            keep(
+                alloc,
+                &NamedFile::source(file.as_str(), *verbose),
+                files,
+                &mut kept,
+                err,
+            )?;
+            keep(
+                alloc,
+                &NamedFile::against(&comparison.against, *verbose),
+                files,
+                &mut kept,
+                err,
+            )?;
+        }
+        Request::Ask { file, verbose, .. } => {
+            keep(
+                alloc,
+                &NamedFile::source(file.as_str(), *verbose),
+                files,
+                &mut kept,
+                err,
+            )?;
+        }
+        Request::Explain { .. } | Request::ExplainEnd { .. } => {}
+    }
+    Ok(kept)
+}

@@ -1,0 +1,163 @@
+//! Answers the words of a command line.
+
+ghost use Rattle.std.specs.Prelude.{◌≡◌, ◌≤◌, [], List, Some, map, ℕ};
+ghost use Rattle.std.specs.Io.KnownBytes.{Appends};
+ghost use Rattle.command.specs.Asked.{Refuses};
+ghost use Rattle.system.specs.Kept.{AreKnown, AreReadFrom, kept_in};
+ghost use Rattle.system.specs.Words.{AnswersWords, IsServed};
+
+use crate::kept::{KeptFile, KeptFiles, keep_files};
+use crate::recorder::{Begun, Recorder};
+use crate::sent::Sent;
+use command::{Request, UsageFault, command};
+use serving::{Files, serve_files, tell_usage};
+use std::alloc::Global;
+use std::io::{IsTerminal, Write};
+use std::marker::Brand;
+use std::sync::Wait;
+use std::thread::Threads;
+use std::time::Clock;
+
+/// What was answered to words.
+#[derive(Drop)]
+pub struct Answer<W> {
+    /// The exit status.
+    pub status: u8,
+    /// What was printed, for proofs alone.
+    pub printed: Sent,
+    /// The files that were read.
+    pub files: Vec<KeptFile>,
+    /// Where it was printed.
+    pub out: W,
+}
+
+/// What was answered, but for the files.
+#[derive(Drop)]
+struct Served<W> {
+    status: u8,
+    printed: Sent,
+    out: W,
+}
+
+/// Does what a request asks, over files that are kept.
+fn serve_kept<
+    B: Begun,
+    H: Threads + Wait + Clock + Sync,
+    W: Write + Drop,
+    E: Write + IsTerminal + Send,
+>(rt: &H, alloc: Global, request: &Request, kept: &[KeptFile], out: W, err: &mut E) -> Served<W>
+    requires begun { W.contents out ≡ B.begun }
+    requires known { AreKnown request.now (kept_in kept.now) }
+    ensures status { result.status ≤ 5 }
+    ensures answer { IsServed request.now (kept_in kept.now) result.status (Some []) (Some result.printed.bytes) }
+    ensures passed { Appends B.begun (W.contents result.out) result.printed.bytes }
+{
+    let mut out: Recorder<W, B> = Recorder::new(out);
+    let files = KeptFiles { files: kept };
+    let status = serve_files(rt, alloc, request, &files, &mut out, err);
+    let (printed, out) = out.into_parts();
+    Served {
+        status,
+        printed,
+        out,
+    }
+}
+
+/// Tells help, or why words are not a request.
+fn tell_recorded<B: Begun, W: Write + Drop, E: Write>(
+    fault: &UsageFault,
+    out: W,
+    err: &mut E,
+) -> Served<W>
+    requires begun { W.contents out ≡ B.begun }
+    ensures status { result.status ≤ 5 }
+    ensures answer { (words : List (List ℕ)) → Refuses words fault.now
+        → AnswersWords words (kept_in []) result.status (Some []) (Some result.printed.bytes) }
+    ensures passed { Appends B.begun (W.contents result.out) result.printed.bytes }
+{
+    let mut out: Recorder<W, B> = Recorder::new(out);
+    let status = tell_usage(fault, &mut out, err);
+    let (printed, out) = out.into_parts();
+    Served {
+        status,
+        printed,
+        out,
+    }
+}
+
+/// Reads the files that a request names, and does what it asks over them. If one can't be read, says so and prints
+/// nothing.
+fn serve_request<
+    H: Threads + Wait + Clock + Sync,
+    F: Files,
+    W: Write + Drop,
+    E: Write + IsTerminal + Send,
+>(rt: &H, alloc: Global, request: &Request, files: &F, out: W, err: &mut E) -> Answer<W>
+    ensures status { result.status ≤ 5 }
+    ensures answer { IsServed request.now (kept_in result.files.items) result.status (Some [])
+        (Some result.printed.bytes) }
+    ensures passed { Appends (W.contents out) (W.contents result.out) result.printed.bytes }
+    ensures read { AreReadFrom (F.contents files.now) result.files.items }
+{
+    match keep_files(alloc, request, files, err) {
+        Ok(files) => {
+            let kept = files.as_slice();
+            let served = serve_kept::<Brand, H, W, E>(rt, alloc, request, kept, out, err);
+            Answer {
+                status: served.status,
+                printed: served.printed,
+                files,
+                out: served.out,
+            }
+        }
+        Err(status) => Answer {
+            status,
+            printed: Sent::new(),
+            files: Vec::new(alloc),
+            out,
+        },
+    }
+}
+
+/// Tells help, or why words are not a request.
+fn tell_fault<W: Write + Drop, E: Write>(
+    alloc: Global,
+    fault: &UsageFault,
+    out: W,
+    err: &mut E,
+) -> Answer<W>
+    ensures status { result.status ≤ 5 }
+    ensures answer { (words : List (List ℕ)) → Refuses words fault.now
+        → AnswersWords words (kept_in result.files.items) result.status (Some []) (Some result.printed.bytes) }
+    ensures passed { Appends (W.contents out) (W.contents result.out) result.printed.bytes }
+    ensures files { result.files.items ≡ [] }
+{
+    let served = tell_recorded::<Brand, W, E>(fault, out, err);
+    Answer {
+        status: served.status,
+        printed: served.printed,
+        files: Vec::new(alloc),
+        out: served.out,
+    }
+}
+
+/// Reads the words of a command line, the program's own name first, and does what they ask, as `serve_files` does, over
+/// files that are read first. Help and the version go to `out`; what is wrong with words goes to `err`, with the status
+/// 2, as does why a file can't be read.
+pub fn serve_words<
+    H: Threads + Wait + Clock + Sync,
+    F: Files,
+    W: Write + Drop,
+    E: Write + IsTerminal + Send,
+>(rt: &H, alloc: Global, words: &[&str], files: &F, out: W, err: &mut E) -> Answer<W>
+    ensures status { result.status ≤ 5 }
+    ensures answer { AnswersWords (map (λ w. w.now) words.now) (kept_in result.files.items) result.status
+        (Some []) (Some result.printed.bytes) }
+    ensures passed { Appends (W.contents out) (W.contents result.out) result.printed.bytes }
+    ensures read { AreReadFrom (F.contents files.now) result.files.items }
+{
+    match command(alloc, words) {
+        Ok(request) => serve_request(rt, alloc, &request, files, out, err),
+        Err(fault) => tell_fault(alloc, &fault, out, err),
+    }
+}

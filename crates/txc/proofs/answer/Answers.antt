@@ -1,0 +1,9 @@
+use Rattle.std.proofs.Common.{◌∙◌, [], List, Some, ap, map, subst, ℕ, Bor}
+use Rattle.system.specs.Kept.{kept_in}
+use Rattle.system.specs.Words.{AnswersWords}
+use Rattle.txc.proofs.answer.Goals as goal
+
+pub returns-in-Ok-clause-answer : goal.returns-in-Ok-clause-answer
+returns-in-Ok-clause-answer g c =
+    subst (λ ws. AnswersWords ws (kept_in c.serve_words.result.files.items) c.serve_words.result.status (Some []) (Some c.serve_words.result.printed.bytes))
+    (ap (map (λ (w : Bor (List ℕ)). w.now)) c.as_slice.ensures.value ∙ c.in-Ok.ensures) c.serve_words.ensures.answer
