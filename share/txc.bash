@@ -4,10 +4,10 @@ _txc() {
     case ${COMP_WORDS[COMP_CWORD - 1]} in
         --format) words='short json' ;;
         --expect | --order-file | --refines | --report | --schedule) ;;
-        --always | --budget | --final | --from | --limit | --memory | --order | --seed | --steps | --threads | --ticks) return ;;
+        --always | --budget | --final | --from | --limit | --memory | --order | --property | --seed | --steps | --threads | --ticks) return ;;
         *)
             if ((COMP_CWORD == 1)); then
-                words='check listing run replay source outcomes certify explain --help --version'
+                words='check listing run replay source trace outcomes certify explain --help --version'
             elif [[ $word == -* ]]; then
                 case ${COMP_WORDS[1]} in
                     check) words='--verbose --format --warn --all --help' ;;
@@ -15,6 +15,7 @@ _txc() {
                     run) words='--verbose --format --threads --budget --counts --memory --help' ;;
                     replay) words='--verbose --format --threads --schedule --seed --steps --order --timeline --picture --from --print-schedule --help' ;;
                     source) words='--verbose --format --threads --order --ticks --help' ;;
+                    trace) words='--verbose --format --threads --order --property --help' ;;
                     outcomes) words='--verbose --format --threads --steps --limit --memory --refines --expect --always --final --keep-going --help' ;;
                     certify) words='--verbose --format --threads --order-file --report --ticks --help' ;;
                     explain) words='--help' ;;

@@ -45,6 +45,14 @@ complete -c txc -n '__fish_seen_subcommand_from source' -l threads -x -d 'Number
 complete -c txc -n '__fish_seen_subcommand_from source' -l order -x -d 'Order of transactions: thread numbers joined by commas, as 0,1,0, or an empty word'
 complete -c txc -n '__fish_seen_subcommand_from source' -l ticks -x -d 'Limit on the ticks of each thread (statements, loop iterations, calls), 0 to 1000000 [default: 100000]'
 complete -c txc -n '__fish_seen_subcommand_from source' -l help -d 'Print help'
+complete -c txc -n __fish_use_subcommand -a trace -d 'Show an order turn by turn: the source line of each transaction, and the globals that it reads and writes'
+complete -c txc -n '__fish_seen_subcommand_from trace' -F
+complete -c txc -n '__fish_seen_subcommand_from trace' -l verbose -d 'Show source lines of faults, and where threads trapped or stopped [default on a terminal], and why a file can'\''t be read'
+complete -c txc -n '__fish_seen_subcommand_from trace' -l format -x -a 'short json' -d 'Report each fault on one line: short is FILE:LINE:COL: error: WORDS [NN], for editors; json is an object'
+complete -c txc -n '__fish_seen_subcommand_from trace' -l threads -x -d 'Number of threads, 1 to 64 [default: 2]'
+complete -c txc -n '__fish_seen_subcommand_from trace' -l order -x -d 'Order of transactions: thread numbers joined by commas, as 0,1,0, or an empty word'
+complete -c txc -n '__fish_seen_subcommand_from trace' -l property -x -d 'Function `int NAME(void)` of FILE to evaluate after the last turn'
+complete -c txc -n '__fish_seen_subcommand_from trace' -l help -d 'Print help'
 complete -c txc -n __fish_use_subcommand -a outcomes -d 'List every possible outcome of a program, each with an order of transactions that leads to it, and deadlocks'
 complete -c txc -n '__fish_seen_subcommand_from outcomes' -F
 complete -c txc -n '__fish_seen_subcommand_from outcomes' -l verbose -d 'Show source lines of faults, and where threads trapped or stopped [default on a terminal], and why a file can'\''t be read'

@@ -2,7 +2,7 @@
 use Rattle.std.proofs.Common.{◌≡◌, ◌∙◌, ℕ, List, None, Some, false, length, sym, ap, subst, true, arith}
 use Rattle.std.specs.Prelude.{codes, slice_index}
 use Rattle.clap.specs.Words.{Row, Text, first_of}
-use Rattle.command.specs.declared.request.Task.TheVariants.{Check, Listing, Run, Replay, Timeline, Picture, PrintOrder, PrintSchedule, Source, Outcomes}
+use Rattle.command.specs.declared.request.Task.TheVariants.{Check, Listing, Run, Replay, Timeline, Picture, PrintOrder, PrintSchedule, Source, Trace, Outcomes}
 use Rattle.command.specs.declared.request.Steps.{Steps}
 use Rattle.command.specs.declared.request.Steps.TheVariants.{Order, Schedule, Seed}
 use Rattle.command.specs.Asked.{AreCounted, AreSteps, AreThreadsExplored, IsFirstDrawn, IsFlagged, IsOrder, IsOrderGiven}
@@ -19,6 +19,7 @@ no_replay given none (Picture threads from steps) is = none steps is.2
 no_replay given none (PrintSchedule threads seed count) is = none (Seed seed count) is.2
 no_replay given none (PrintOrder threads order) is = none (Order order) is.2
 no_replay given none (Source threads order ticks) is = let e : 114 ≡ 115 = ap (λ l. slice_index l 0) is.0 in absurd (omega (arith, e))
+no_replay given none (Trace threads order property) is = let e : 114 ≡ 116 = ap (λ l. slice_index l 0) is.0 in absurd (omega (arith, e))
 no_replay given none (Outcomes threads steps limit memory) is = let e : 114 ≡ 111 = ap (λ l. slice_index l 0) is.0 in absurd (omega (arith, e))
 
 -- no first access to be drawn, no picture
@@ -32,6 +33,7 @@ no_drawn given none drawn (Picture threads from steps) is = none from is.4
 no_drawn given none drawn (PrintSchedule threads seed count) is = let e : false ≡ true = is.3.picture_is.1 drawn in cc
 no_drawn given none drawn (PrintOrder threads order) is = let e : false ≡ true = is.3.picture_is.1 drawn in cc
 no_drawn given none drawn (Source threads order ticks) is = let e : 114 ≡ 115 = ap (λ l. slice_index l 0) is.0 in absurd (omega (arith, e))
+no_drawn given none drawn (Trace threads order property) is = let e : 114 ≡ 116 = ap (λ l. slice_index l 0) is.0 in absurd (omega (arith, e))
 no_drawn given none drawn (Outcomes threads steps limit memory) is = let e : 114 ≡ 111 = ap (λ l. slice_index l 0) is.0 in absurd (omega (arith, e))
 
 -- an order that is given makes other steps none
@@ -51,6 +53,7 @@ no_source given none (Picture threads from steps) is = let e : 115 ≡ 114 = ap 
 no_source given none (PrintSchedule threads seed count) is = let e : 115 ≡ 114 = ap (λ l. slice_index l 0) is.0 in absurd (omega (arith, e))
 no_source given none (PrintOrder threads order) is = let e : 115 ≡ 114 = ap (λ l. slice_index l 0) is.0 in absurd (omega (arith, e))
 no_source given none (Source threads order ticks) is = none order.items is.2
+no_source given none (Trace threads order property) is = let e : 115 ≡ 116 = ap (λ l. slice_index l 0) is.0 in absurd (omega (arith, e))
 no_source given none (Outcomes threads steps limit memory) is = let e : 115 ≡ 111 = ap (λ l. slice_index l 0) is.0 in absurd (omega (arith, e))
 
 -- no number of threads, no outcomes
@@ -64,7 +67,22 @@ no_outcomes given none (Picture threads from steps) is = let e : 111 ≡ 114 = a
 no_outcomes given none (PrintSchedule threads seed count) is = let e : 111 ≡ 114 = ap (λ l. slice_index l 0) is.0 in absurd (omega (arith, e))
 no_outcomes given none (PrintOrder threads order) is = let e : 111 ≡ 114 = ap (λ l. slice_index l 0) is.0 in absurd (omega (arith, e))
 no_outcomes given none (Source threads order ticks) is = let e : 111 ≡ 115 = ap (λ l. slice_index l 0) is.0 in absurd (omega (arith, e))
+no_outcomes given none (Trace threads order property) is = let e : 111 ≡ 116 = ap (λ l. slice_index l 0) is.0 in absurd (omega (arith, e))
 no_outcomes given none (Outcomes threads steps limit memory) is = none threads.first threads.last is.1
+
+-- no order, no trace
+pub no_trace : (given : List Row) → ((order : List ℕ) → IsOrderGiven given order → ⊥) → AreNoTask (codes "trace") given
+no_trace given none (Check told) is = let e : 116 ≡ 99 = ap (λ l. slice_index l 0) is.0 in absurd (omega (arith, e))
+no_trace given none Listing is = let e : 116 ≡ 108 = ap (λ l. slice_index l 0) is in absurd (omega (arith, e))
+no_trace given none (Run threads budget counts memory) is = let e : 116 ≡ 114 = ap (λ l. slice_index l 0) is.0 in absurd (omega (arith, e))
+no_trace given none (Replay threads steps) is = let e : 116 ≡ 114 = ap (λ l. slice_index l 0) is.0 in absurd (omega (arith, e))
+no_trace given none (Timeline threads steps) is = let e : 116 ≡ 114 = ap (λ l. slice_index l 0) is.0 in absurd (omega (arith, e))
+no_trace given none (Picture threads from steps) is = let e : 116 ≡ 114 = ap (λ l. slice_index l 0) is.0 in absurd (omega (arith, e))
+no_trace given none (PrintSchedule threads seed count) is = let e : 116 ≡ 114 = ap (λ l. slice_index l 0) is.0 in absurd (omega (arith, e))
+no_trace given none (PrintOrder threads order) is = let e : 116 ≡ 114 = ap (λ l. slice_index l 0) is.0 in absurd (omega (arith, e))
+no_trace given none (Source threads order ticks) is = let e : 116 ≡ 115 = ap (λ l. slice_index l 0) is.0 in absurd (omega (arith, e))
+no_trace given none (Trace threads order property) is = none order.items is.2
+no_trace given none (Outcomes threads steps limit memory) is = let e : 116 ≡ 111 = ap (λ l. slice_index l 0) is.0 in absurd (omega (arith, e))
 
 -- a text that lists no threads is no order
 pub no_order : (given : List Row) (taken text : Text) → ((order : List ℕ) → IsOrder taken order → ⊥) → taken ≡ text → first_of (codes "order") given ≡ Some text → (order : List ℕ) → IsOrderGiven given order → ⊥

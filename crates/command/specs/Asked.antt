@@ -18,7 +18,7 @@ use Rattle.command.specs.declared.request.Request.TheVariants.{Program, Certify,
 use Rattle.command.specs.declared.request.Questions.{Questions}
 use Rattle.command.specs.declared.request.Task.{Task}
 use Rattle.command.specs.declared.request.Task.TheVariants.{Check, Listing, Run, Replay, Timeline, Picture}
-use Rattle.command.specs.declared.request.Task.TheVariants.{PrintOrder, PrintSchedule, Source, Outcomes}
+use Rattle.command.specs.declared.request.Task.TheVariants.{PrintOrder, PrintSchedule, Source, Trace, Outcomes}
 use Rattle.command.specs.declared.request.Steps.{Steps}
 use Rattle.command.specs.declared.request.Steps.TheVariants.{Order, Schedule, Seed}
 use Rattle.command.specs.declared.request.UsageFault.{UsageFault}
@@ -193,6 +193,9 @@ IsTask name given (PrintOrder threads order) = (name ≡ codes "replay") × AreT
 IsTask name given (Source threads order ticks) = (name ≡ codes "source") × AreThreadsGiven given threads
     × IsOrderGiven given order.items
     × IsNumberInRange given (codes "ticks") 100000 0 1000000 ticks
+IsTask name given (Trace threads order property) = (name ≡ codes "trace")
+    × IsNumberInRange given (codes "threads") 2 1 64 threads
+    × IsOrderGiven given order.items × (option_map string_bytes property ≡ first_of (codes "property") given)
 IsTask name given (Outcomes threads steps limit memory) = (name ≡ codes "outcomes")
     × AreThreadsExplored given threads.first threads.last
     × IsNumberInRange given (codes "steps") 1000000 0 4294967295 steps

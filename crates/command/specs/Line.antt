@@ -67,6 +67,11 @@ source_app =
     let threads = with_rule (file_app (codes "source")) (text_rule (codes "threads")) in
     with_rule (with_rule threads order_rule) (text_rule (codes "ticks"))
 
+abbrev pub trace_app : App
+trace_app =
+    let threads = with_rule (file_app (codes "trace")) (text_rule (codes "threads")) in
+    with_rule (with_rule threads order_rule) (text_rule (codes "property"))
+
 abbrev pub outcome_states_app : App
 outcome_states_app =
     let threads = with_rule (file_app (codes "outcomes")) (text_rule (codes "threads")) in
@@ -98,5 +103,6 @@ abbrev pub program_app : App
 program_app =
     let lists = with_subcommand (with_subcommand commandless_app check_app.top) listing_app.top in
     let runs = with_subcommand (with_subcommand lists run_app.top) replay_app.top in
-    let of_source = with_subcommand (with_subcommand runs source_app.top) outcomes_app.top in
-    with_subcommand (with_subcommand of_source certify_app.top) explain_app.top
+    let of_source = with_subcommand (with_subcommand runs source_app.top) trace_app.top in
+    let compares = with_subcommand (with_subcommand of_source outcomes_app.top) certify_app.top in
+    with_subcommand compares explain_app.top

@@ -9,7 +9,7 @@ ghost use Rattle.command.specs.inner.Refusals.{IsOwn};
 use crate::order::order;
 use crate::request::{Steps, Task, UsageFault};
 use clap::ArgMatches;
-use std::alloc::Global;
+use std::alloc::{AllocError, Global};
 
 /// Words that the command line has, and that the program refuses all the same: why.
 pub(crate) fn wrong(alloc: Global, why: &str) -> UsageFault
@@ -26,6 +26,23 @@ pub(crate) fn text_given<'a>(given: &ArgMatches<'a>, id: &str) -> Option<&'a str
     ensures { option_map (λ s. s.now) result ≡ first_of id.now (rows_of (found_of given.now)) }
 {
     given.get_str(id)
+}
+
+/// A copy of the text that is given for an argument, if one is.
+pub(crate) fn text_kept(
+    alloc: Global,
+    given: &ArgMatches<'_>,
+    id: &str,
+) -> Result<Option<String>, AllocError>
+    ensures { IfOk result (λ o. option_map string_bytes o ≡ first_of id.now (rows_of (found_of given.now))) }
+{
+    match text_given(given, id) {
+        Some(text) => match String::from_str(alloc, text) {
+            Ok(text) => Ok(Some(text)),
+            Err(refused) => Err(refused),
+        },
+        None => Ok(None),
+    }
 }
 
 /// The text that is given for an argument which the command line wants.

@@ -6,7 +6,7 @@ ghost use Rattle.command.specs.inner.Made.{IsMade};
 ghost use Rattle.command.specs.Line.{file_rule, flag_rule, fault_rule, text_rule, wanted_rule, order_rule, file_app};
 ghost use Rattle.command.specs.Line.{check_app, listing_app, run_app, replay_steps_app, replay_app, source_app};
 ghost use Rattle.command.specs.Line.{outcome_states_app, outcomes_app, certify_app, explain_app, commandless_app};
-ghost use Rattle.command.specs.Line.{program_app, trap_rule};
+ghost use Rattle.command.specs.Line.{program_app, trace_app, trap_rule};
 
 use clap::{Arg, ArgAction, Command};
 use std::alloc::{AllocError, Global};
@@ -204,6 +204,19 @@ fn threads_explored<'a>(alloc: Global) -> Arg<'a>
     )
 }
 
+/// The number of threads of an order.
+fn threads_traced<'a>(alloc: Global) -> Arg<'a>
+    ensures rule { rule_of result ≡ text_rule (codes "threads") }
+    ensures global { result.global ≡ false }
+{
+    text(
+        alloc,
+        "threads",
+        "T",
+        "Number of threads, 1 to 64 [default: 2]",
+    )
+}
+
 /// The command that runs all threads at once.
 fn run<'a>(alloc: Global) -> Result<Command<'a>, AllocError>
     ensures { IfOk result (IsMade run_app) }
@@ -330,6 +343,27 @@ fn ticks<'a>(alloc: Global) -> Arg<'a>
         "N",
         "Limit on the ticks of each thread (statements, loop iterations, calls), 0 to 1000000 [default: 100000]",
     )
+}
+
+/// The command that shows an order turn by turn.
+fn trace<'a>(alloc: Global) -> Result<Command<'a>, AllocError>
+    ensures { IfOk result (IsMade trace_app) }
+{
+    let command = of_file(
+        alloc,
+        "trace",
+        "Show an order turn by turn: the source line of each transaction, and the globals that it reads and writes",
+        "Example:\n  txc trace counter.c --threads 2 --order 0,1",
+    );
+    let command = with(command, threads_traced(alloc));
+    let command = with(command, order_wanted(alloc));
+    let property = text(
+        alloc,
+        "property",
+        "NAME",
+        "Function `int NAME(void)` of FILE to evaluate after the last turn",
+    );
+    with(command, property)
 }
 
 /// The command that lists all outcomes, with its limits and the options that compare outcomes.
@@ -530,6 +564,7 @@ pub fn program<'a>(alloc: Global) -> Result<Command<'a>, AllocError>
     let program = with_command(program, run(alloc));
     let program = with_command(program, replay(alloc));
     let program = with_command(program, source(alloc));
+    let program = with_command(program, trace(alloc));
     let program = with_command(program, outcomes(alloc));
     let program = with_command(program, certify(alloc));
     with_command(program, explain(alloc))

@@ -1,17 +1,17 @@
 //! Which functions are asked whether they hold.
 
-ghost use Rattle.std.specs.Prelude.{◌≡◌, ◌||◌, IfErr, IfOk, codes, is_some, option_map, string_bytes, true, false};
+ghost use Rattle.std.specs.Prelude.{◌≡◌, ◌||◌, IfErr, IfOk, codes, is_some, true, false};
 ghost use Rattle.clap.specs.Words.{first_of, found_of, rows_of};
 ghost use Rattle.command.specs.Asked.{AreQuestions, are_asked};
 ghost use Rattle.command.specs.declared.request.Questions.{Questions};
 ghost use Rattle.command.specs.inner.Refusals.{IsOwn};
 
-use crate::given::{flag_given, text_given};
+use crate::given::{flag_given, text_given, text_kept};
 use crate::range::threads_explored;
 use crate::request::{Questions, UsageFault};
 use crate::task::number;
 use clap::ArgMatches;
-use std::alloc::{AllocError, Global};
+use std::alloc::Global;
 
 /// Whether a text is given for an argument.
 fn is_there(given: &ArgMatches<'_>, id: &str) -> bool
@@ -36,19 +36,6 @@ pub(crate) fn asks(name: &str, given: &ArgMatches<'_>) -> bool
         are_asked(given)
     } else {
         false
-    }
-}
-
-/// The text that is given for an argument, if one is.
-fn text_kept(alloc: Global, given: &ArgMatches<'_>, id: &str) -> Result<Option<String>, AllocError>
-    ensures { IfOk result (λ o. option_map string_bytes o ≡ first_of id.now (rows_of (found_of given.now))) }
-{
-    match text_given(given, id) {
-        Some(text) => match String::from_str(alloc, text) {
-            Ok(text) => Ok(Some(text)),
-            Err(refused) => Err(refused),
-        },
-        None => Ok(None),
     }
 }
 

@@ -177,6 +177,12 @@ pub enum Task {
         order: Vec<u32>,
         ticks: u32,
     },
+    /// Shows an order of 1 to 64 threads turn by turn, and what a function of this name says of the last memory.
+    Trace {
+        threads: u32,
+        order: Vec<u32>,
+        property: Option<String>,
+    },
     /// Lists the outcomes of 1 to 64 threads in all orders, over at most so many states. In a turn a thread makes at
     /// most so many steps of its code, and states and list take about so many MB of memory.
     Outcomes {

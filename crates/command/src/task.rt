@@ -9,7 +9,7 @@ ghost use Rattle.command.specs.declared.request.Steps.{Steps};
 ghost use Rattle.command.specs.inner.Refusals.{AreNoTask, IsOutOfRange, IsOwn};
 
 use crate::given::{
-    flag_given, is_given, number_given, out_of_range, text_given, text_wanted, wrong,
+    flag_given, is_given, number_given, out_of_range, text_given, text_kept, text_wanted, wrong,
 };
 use crate::order::order;
 use crate::range::threads_explored;
@@ -202,6 +202,19 @@ fn source(alloc: Global, given: &ArgMatches<'_>) -> Result<Task, UsageFault>
     })
 }
 
+/// The turns of an order, shown.
+fn trace(alloc: Global, given: &ArgMatches<'_>) -> Result<Task, UsageFault>
+    ensures ok { IfOk result (IsTask (codes "trace") (rows_of (found_of given.now))) }
+    ensures err { IfErr result (IsOwn (AreNoTask (codes "trace") (rows_of (found_of given.now)))) }
+{
+    let threads = number(alloc, given, "threads", 2, 1, MOST_THREADS)?;
+    Ok(Task::Trace {
+        threads,
+        order: order_given(alloc, given)?,
+        property: text_kept(alloc, given, "property")?,
+    })
+}
+
 /// The outcomes of all orders, where they are compared with nothing and no function is asked.
 fn outcomes(alloc: Global, given: &ArgMatches<'_>) -> Result<Task, UsageFault>
     requires alone { AreUncompared (rows_of (found_of given.now)) }
@@ -238,6 +251,7 @@ pub(crate) fn task(alloc: Global, name: &str, given: &ArgMatches<'_>) -> Result<
         }),
         "replay" => replay(alloc, given),
         "source" => source(alloc, given),
+        "trace" => trace(alloc, given),
         "outcomes" => outcomes(alloc, given),
         _ => Err(wrong(alloc, "no such command")),
     }

@@ -121,7 +121,15 @@ fn reads_words(rt: HostRuntime) {
 }
 
 fn orders() -> &'static [Row] {
-    static ROWS: [Row; 6] = [
+    static ROWS: [Row; 8] = [
+        (
+            "txc|trace|--order|0,1|a.c",
+            br#"Ok(Program { file: "a.c", verbose: false, format: Plain, task: Trace { threads: 2, order: [0, 1], property: None } })"#,
+        ),
+        (
+            "txc|trace|a.c|--threads=3|--order=|--property|p|--verbose",
+            br#"Ok(Program { file: "a.c", verbose: true, format: Plain, task: Trace { threads: 3, order: [], property: Some("p") } })"#,
+        ),
         (
             "txc|source|--order||--threads|2|a.c",
             br#"Ok(Program { file: "a.c", verbose: false, format: Plain, task: Source { threads: 2, order: [], ticks: 100000 } })"#,
@@ -210,7 +218,11 @@ fn reads_outcomes(rt: HostRuntime) {
 
 /// Orders that the program itself refuses.
 fn refused_orders() -> &'static [Row] {
-    static ROWS: [Row; 12] = [
+    static ROWS: [Row; 13] = [
+        (
+            "txc|trace|--order=a|a.c",
+            br#"Err(Wrong { text: "txc: usage: bad --order\n" })"#,
+        ),
         (
             "txc|source|--order=0,,1|a.c",
             br#"Err(Wrong { text: "txc: usage: bad --order\n" })"#,
@@ -755,7 +767,7 @@ fn have_not(
 
 /// What is no command line of the program.
 fn wrong_lines() -> &'static [&'static str] {
-    static LINES: [&str; 20] = [
+    static LINES: [&str; 23] = [
         "txc",
         "txc|outcomes",
         "txc|run|a.c|--refines=b.c",
@@ -769,6 +781,9 @@ fn wrong_lines() -> &'static [&'static str] {
         "txc|run|a.c|b.c",
         "txc|source|a.c|--threads=2",
         "txc|source|--order=0|--verbose",
+        "txc|trace|a.c|--threads=2",
+        "txc|trace|a.c|--order=0|--property",
+        "txc|trace|a.c|--order=0|--ticks=5",
         "txc|explain|--verbose|1",
         "txc|explain|1|",
         "txc|replay|a.c|--seed=-1",
@@ -790,7 +805,8 @@ const HELP: &str = "Err(Help {";
 
 /// Lines that ask for the help of a command.
 fn help_lines() -> &'static [&'static str] {
-    static LINES: [&str; 8] = [
+    static LINES: [&str; 9] = [
+        "txc|trace|--help",
         "txc|help|run",
         "txc|outcomes|--help",
         "txc|run|--help",
@@ -813,7 +829,8 @@ fn helps(rt: HostRuntime) {
 
 /// The ranges and defaults that the help of each command gives, as its numbers are taken.
 fn told_ranges() -> &'static [(&'static str, &'static str)] {
-    static ROWS: [(&str, &str); 13] = [
+    static ROWS: [(&str, &str); 14] = [
+        ("txc|trace|--help", "1 to 64 [default: 2]"),
         ("txc|run|--help", "1 to 64 [default: 1]"),
         ("txc|run|--help", "0 to 4294967295 [default: 4294967295]"),
         ("txc|replay|--help", "1 to 64 [default: 1]"),

@@ -4,7 +4,7 @@ use Rattle.command.specs.declared.request.Request.{Request}
 use Rattle.command.specs.declared.request.Request.TheVariants.{Program, Certify, Compare, Ask, Explain, ExplainEnd}
 use Rattle.command.specs.declared.request.Task.{Task}
 use Rattle.command.specs.declared.request.Task.TheVariants.{Check, Listing, Run, Replay, Timeline, Picture}
-use Rattle.command.specs.declared.request.Task.TheVariants.{PrintOrder, PrintSchedule, Source, Outcomes}
+use Rattle.command.specs.declared.request.Task.TheVariants.{PrintOrder, PrintSchedule, Source, Trace, Outcomes}
 use Rattle.serving.specs.Certified.{CertifiesReport, WritesVerdict}
 use Rattle.serving.specs.Checks.{Accepts, SaysAccepted}
 use Rattle.serving.specs.Compared.{ComparesOutcomes, WritesComparison}
@@ -16,6 +16,7 @@ use Rattle.serving.specs.Properties.{AnswersQuestions, IsToldOf}
 use Rattle.serving.specs.Orders.{RunsInOrder, RunsInSomeOrder}
 use Rattle.serving.specs.Runs.{RunsConcurrently}
 use Rattle.serving.specs.Pictures.{PrintsPicture, ReplaysDrawn}
+use Rattle.serving.specs.Traces.{PrintsTrace, TracesOrder}
 use Rattle.serving.specs.Written.{IsAskedFor, WritesPart}
 use Rattle.serving.specs.Replays.{PrintsOrder, PrintsSchedule, PrintsTimeline, Replays, ReplaysShown}
 use Rattle.serving.specs.Replays.{behind_events, lines_of_seed}
@@ -43,6 +44,8 @@ Answers (PrintOrder threads order) schedule text status old new =
     PrintsOrder threads order.items text status old new
 Answers (Source threads order ticks) schedule text status old new =
     PrintsReport (λ shown. RunsInOrder threads ticks order.items text shown × Accepts text) status old new
+Answers (Trace threads order property) schedule text status old new =
+    PrintsTrace (λ written shown. TracesOrder threads order.items text written shown) status old new
 Answers (Outcomes threads steps limit memory) schedule text status old new =
     SaysOfRange (λ n s o w. PrintsOutcomes n text s o w) threads status old new
 

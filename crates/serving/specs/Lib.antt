@@ -22,6 +22,8 @@ pub mod Listings
 pub mod Runs
 -- replays
 pub mod Replays
+-- orders shown turn by turn
+pub mod Traces
 -- pictures of replays
 pub mod Pictures
 -- why a source is refused

@@ -4,7 +4,7 @@ use Rattle.command.specs.declared.request.Request.{Request}
 use Rattle.command.specs.declared.request.Request.TheVariants.{Program, Certify, Compare, Ask, Explain, ExplainEnd}
 use Rattle.command.specs.declared.request.Task.{Task}
 use Rattle.command.specs.declared.request.Task.TheVariants.{Check, Listing, Run, Replay, Timeline, Picture}
-use Rattle.command.specs.declared.request.Task.TheVariants.{PrintOrder, PrintSchedule, Source, Outcomes}
+use Rattle.command.specs.declared.request.Task.TheVariants.{PrintOrder, PrintSchedule, Source, Trace, Outcomes}
 use Rattle.serving.specs.Compared.{HaveNoCode}
 use Rattle.serving.specs.Limits.{HasNoCode}
 use Rattle.serving.specs.Refusals.{IsRefused}
@@ -20,6 +20,7 @@ IsRefusedFor (Picture threads from steps) text = HasNoCode text
 IsRefusedFor (PrintSchedule threads seed count) text = HasNoCode text
 IsRefusedFor (PrintOrder threads order) text = HasNoCode text
 IsRefusedFor (Source threads order ticks) text = IsRefused text
+IsRefusedFor (Trace threads order property) text = HasNoCode text
 IsRefusedFor (Outcomes threads steps limit memory) text = HasNoCode text
 
 -- why a request is refused, if these are the bytes of the file and of what its outcomes are compared with

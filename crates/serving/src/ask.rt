@@ -232,7 +232,7 @@ fn ask_names<A: Allocator + Copy, W: Write, E: Write>(
 }
 
 /// The exit status with which it is told of the first of these names whose function may not be asked, if there is one.
-fn refuse_names<A: Allocator + Copy, E: Write>(
+pub(crate) fn refuse_names<A: Allocator + Copy, E: Write>(
     alloc: A,
     compiled: &Compiled<A>,
     option: &str,

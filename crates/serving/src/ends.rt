@@ -16,7 +16,7 @@ use syntax::tree::BinaryOp;
 /// Where a thread stands in the source, and what it could not compute there. No contract speaks of it.
 #[derive(Clone, Copy)]
 pub(crate) struct Stood {
-    at: Option<Span>,
+    pub(crate) at: Option<Span>,
     cause: Option<TrapCause>,
 }
 

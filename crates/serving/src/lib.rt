@@ -34,6 +34,7 @@ mod served;
 mod source;
 mod tell;
 mod timed;
+mod trace;
 mod walked;
 
 pub use all_outcomes::list_outcomes;

@@ -16,6 +16,7 @@ use crate::replays::{print_order, print_schedule, replay_source, show_steps};
 use crate::run::run;
 use crate::source::in_order;
 use crate::tell::{Teller, unusable};
+use crate::trace::trace;
 use command::Task;
 use messages::{end_explanation, explanation};
 use std::alloc::{Allocator, Global};
@@ -158,6 +159,19 @@ fn work_alone<A: Allocator + Copy, S: Read + Drop, W: Write, E: Write>(
             *threads,
             order.as_slice(),
             u64::from(*ticks),
+            out,
+            teller,
+        ),
+        Task::Trace {
+            threads,
+            order,
+            property,
+        } => trace(
+            alloc,
+            text,
+            *threads,
+            order.as_slice(),
+            property.as_deref(),
             out,
             teller,
         ),

@@ -796,7 +796,7 @@ fn fourth_transcripts() -> &'static [Transcript] {
 }
 
 fn fifth_transcripts() -> &'static [Transcript] {
-    static ROWS: [Transcript; 9] = [
+    static ROWS: [Transcript; 12] = [
         (
             "txc source examples/counter.c --threads 2 --order 0,1,1",
             b"// Each thread adds one, three times. No addition is lost, however the threads interleave.\nint x;\n\nvoid worker(int self) {\n    int i;\n    for (i = 0; i < 3; i++) {\n        __transaction_atomic { x = x + 1; }\n    }\n}\n",
@@ -859,6 +859,27 @@ fn fifth_transcripts() -> &'static [Transcript] {
             b"",
             b"",
             b"== thread 0: ended\n== thread 1: ended\n== memory\nbalance = 30\nrefused = 3\n",
+        ),
+        (
+            "txc trace examples/properties/lock_broken.c --threads 2 --order 0,1,0,0,1,1 --property alone",
+            b"// A lock that is tested in one transaction and taken in the next: two threads may find it free.\nint taken, inside, entered;\n\nint alone(void) { return inside <= 1; }\n\nvoid worker(int self) {\n    int mine = 0;\n    while (!mine) {\n        __transaction_atomic { mine = !taken; }\n    }\n    __transaction_atomic { taken = 1; }\n    __transaction_atomic { inside = inside + 1; }\n    __transaction_atomic { inside = inside - 1; entered = entered + 1; }\n    __transaction_atomic { taken = 0; }\n}\n",
+            b"",
+            b"",
+            b"turn thread at     taken inside\n                       0      0\n   1      0 9:9        0      .   mine = !taken\n   2      1 9:9        0      .   mine = !taken\n   3      0 11:5      >1      .   taken = 1\n   4      0 12:5       .     >1   inside = inside + 1\n   5      1 11:5      >1      .   taken = 1\n   6      1 12:5       .     >2   inside = inside + 1\nthread 0: next at 13:5: inside = inside - 1; entered = entered + ..\nthread 1: next at 13:5: inside = inside - 1; entered = entered + ..\nproperty alone: fails\n",
+        ),
+        (
+            "txc trace examples/locks.c --threads 2 --order 0,1",
+            b"// Two locks, which the threads take in opposite orders: each can hold one and wait for the other.\nint locked[2], done;\n\nvoid take(int which) {\n    int mine = 0;\n    while (!mine) {\n        __transaction_atomic { mine = !locked[which]; if (mine) locked[which] = 1; }\n    }\n}\n\nvoid worker(int self) {\n    take(self);\n    take(1 - self);\n    __transaction_atomic { done = done + 1; locked[0] = 0; locked[1] = 0; }\n}\n",
+            b"",
+            b"",
+            b"turn thread at     locked[0] locked[1]\n                           0         0\n   1      0 7:9           >1         .   mine = !locked[which]; if (mine) locked ..\n   2      1 7:9            .        >1   mine = !locked[which]; if (mine) locked ..\nthread 0: next at 7:9: mine = !locked[which]; if (mine) locked ..\nthread 1: next at 7:9: mine = !locked[which]; if (mine) locked ..\n",
+        ),
+        (
+            "txc trace examples/seats.c --threads 2 --order 0,1,0,1",
+            b"// One seat and two buyers, who check and buy in two transactions: the seat can be sold twice.\nint seats = 1, sold;\n\nvoid worker(int self) {\n    int free;\n    __transaction_atomic { free = seats > 0; }\n    if (free) {\n        __transaction_atomic {\n            seats = seats - 1;\n            sold = sold + 1;\n        }\n    }\n}\n",
+            b"",
+            b"",
+            b"turn thread at     seats sold\n                       1    0\n   1      0 6:5        1    .   free = seats > 0\n   2      1 6:5        1    .   free = seats > 0\n   3      0 8:9       >0   >1   seats = seats - 1; sold = sold + 1  ended\n   4      1 8:9      >-1   >2   seats = seats - 1; sold = sold + 1  ended\nthread 0: ended\nthread 1: ended\n",
         ),
     ];
     &ROWS

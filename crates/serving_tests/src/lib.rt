@@ -36,4 +36,6 @@ mod served;
 #[cfg(test)]
 mod timed;
 #[cfg(test)]
+mod traced;
+#[cfg(test)]
 mod wide;

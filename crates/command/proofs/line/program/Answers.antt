@@ -7,6 +7,7 @@ returns c =
     let three = c.with_command-program-3.ensures _ _ two c.run.ensures in
     let four = c.with_command-program-4.ensures _ _ three c.replay.ensures in
     let five = c.with_command-program-5.ensures _ _ four c.source.ensures in
-    let six = c.with_command-program-6.ensures _ _ five c.outcomes.ensures in
-    let seven = c.with_command-program-7.ensures _ _ six c.certify.ensures in
-    c.with_command.ensures _ _ seven c.explain.ensures
+    let six = c.with_command-program-6.ensures _ _ five c.trace.ensures in
+    let seven = c.with_command-program-7.ensures _ _ six c.outcomes.ensures in
+    let eight = c.with_command-program-8.ensures _ _ seven c.certify.ensures in
+    c.with_command.ensures _ _ eight c.explain.ensures

@@ -1,3 +1,7 @@
+use Rattle.std.proofs.Common.{subst}
+use Rattle.serving.specs.Limits.{HasNoCode}
+use Rattle.serving.specs.Traces.{IsOrderTrace, PrintsTrace, TracesOrder}
+use Rattle.serving.specs.inner.Serves.{ServesText}
 use Rattle.serving.proofs.request.work_alone.Goals as goal
 
 pub returns-in-Replay : goal.returns-in-Replay
@@ -11,3 +15,11 @@ returns-in-Picture g c = rw c.in-Picture.is c.draw.ensures
 
 pub returns-in-Outcomes : goal.returns-in-Outcomes
 returns-in-Outcomes g c = rw c.in-Outcomes.is c.all_outcomes.ensures
+
+pub returns-in-Trace : goal.returns-in-Trace
+returns-in-Trace g c =
+    let threads = c.in-Trace.threads in
+    let text = c.args.text.now in
+    rw c.in-Trace.is
+    (subst (λ o. ServesText (PrintsTrace (λ written shown. TracesOrder threads o text written shown)) (HasNoCode text) (IsOrderTrace threads o text)
+    c.trace.result (g.W.Write.contents c.args.out.now) (g.W.Write.contents c.trace.new.out)) c.as_slice-in-Trace.ensures.value c.trace.ensures)
