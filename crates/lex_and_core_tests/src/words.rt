@@ -852,10 +852,7 @@ fn told_ranges() -> &'static [(&'static str, &'static str)] {
             "states explored, 0 to 4294967295 [default: 1000000]",
         ),
         ("txc|outcomes|--help", "0 to 4294967295 [default: 1024]"),
-        (
-            "txc|certify|--help",
-            "0 to 4294967295 [default: no limit]",
-        ),
+        ("txc|certify|--help", "0 to 4294967295 [default: no limit]"),
     ];
     &ROWS
 }

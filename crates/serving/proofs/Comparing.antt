@@ -28,7 +28,7 @@ use Rattle.serving.specs.Reports.{has_stopped}
 use Rattle.serving.specs.Verdicts.{IsEither, Tells}
 use Rattle.serving.specs.Written.{WritesPart}
 use Rattle.serving.specs.inner.Compared.{SaysShown, ShowsUnshown}
-use Rattle.serving.specs.inner.Serves.{PrintsEither, PrintsEitherInTurn, ServesEither, ServesEitherInTurn, ServesExpected}
+use Rattle.serving.specs.inner.Serves.{PrintsEither, PrintsEitherInTurn, ServesEitherInTurn, ServesExpected}
 use Rattle.serving.proofs.InTurn.{part_in_turn, says_so, stops}
 use Rattle.serving.proofs.Refusals.{refused_text, unread_refused}
 use Rattle.serving.proofs.Printing.{serves_so}

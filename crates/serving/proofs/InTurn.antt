@@ -1,6 +1,5 @@
 -- What is served for one number of threads after another.
-use Rattle.std.proofs.Common.{◌≡◌, ◌≢◌, ◌∙◌, ◌⊎◌, inl, inr, ◌+◌, ◌-◌, ◌<◌, ◌≤◌, ◌++◌, ℕ, zero, suc, List, [], Option, Some, length, take, drop, refl, ap, subst, sym, append_assoc, arith}
-use Rattle.std.specs.Prelude.{IfSome}
+use Rattle.std.proofs.Common.{◌≡◌, ◌≢◌, ◌∙◌, inl, inr, ◌+◌, ◌-◌, ◌<◌, ◌≤◌, ◌++◌, ℕ, zero, suc, List, [], Option, length, take, drop, refl, ap, subst, sym, append_assoc, arith}
 use Rattle.std.specs.Io.KnownBytes.{Appends}
 use Rattle.std.proofs.Math.Seq.{take-append_seam}
 use Rattle.std.proofs.lemmas.List.{take_all, take-append-drop}
@@ -12,7 +11,7 @@ use Rattle.serving.specs.InTurn.{AreTextsInTurn, SaysInTurn}
 use Rattle.serving.specs.Outcomes.{IsListOfOutcomes, PrintsOutcomes}
 use Rattle.serving.specs.Properties.{IsTextOfProperties, TellsProperties}
 use Rattle.serving.specs.Verdicts.{IsEither, Tells}
-use Rattle.serving.specs.Written.{AppendsBeginning, WritesPart}
+use Rattle.serving.specs.Written.{WritesPart}
 use Rattle.serving.specs.inner.Serves.{PrintsInTurn, Serves}
 use Rattle.serving.proofs.Parts.{part_so}
 use Rattle.serving.proofs.ReplayRuns.{appends_more}

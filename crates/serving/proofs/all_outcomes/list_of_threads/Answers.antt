@@ -1,4 +1,4 @@
-use Rattle.std.proofs.Common.{[], map, refl, subst}
+use Rattle.std.proofs.Common.{[], map, subst}
 use Rattle.std.specs.Io.KnownBytes.{Appends}
 use Rattle.parse.specs.Faults.{source_of}
 use Rattle.report.specs.OutcomeList.{list_text}
