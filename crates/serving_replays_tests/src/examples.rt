@@ -875,11 +875,11 @@ fn fifth_transcripts() -> &'static [Transcript] {
             b"turn thread at     locked[0] locked[1]\n                           0         0\n   1      0 7:9           >1         .   mine = !locked[which]; if (mine) locked ..\n   2      1 7:9            .        >1   mine = !locked[which]; if (mine) locked ..\nthread 0: next at 7:9: mine = !locked[which]; if (mine) locked ..\nthread 1: next at 7:9: mine = !locked[which]; if (mine) locked ..\n",
         ),
         (
-            "txc trace examples/seats.c --threads 2 --order 0,1,0,1",
+            "txc trace examples/seats.c --threads 2 --order 0,1,1,0",
             b"// One seat and two buyers, who check and buy in two transactions: the seat can be sold twice.\nint seats = 1, sold;\n\nvoid worker(int self) {\n    int free;\n    __transaction_atomic { free = seats > 0; }\n    if (free) {\n        __transaction_atomic {\n            seats = seats - 1;\n            sold = sold + 1;\n        }\n    }\n}\n",
             b"",
             b"",
-            b"turn thread at     seats sold\n                       1    0\n   1      0 6:5        1    .   free = seats > 0\n   2      1 6:5        1    .   free = seats > 0\n   3      0 8:9       >0   >1   seats = seats - 1; sold = sold + 1  ended\n   4      1 8:9      >-1   >2   seats = seats - 1; sold = sold + 1  ended\nthread 0: ended\nthread 1: ended\n",
+            b"turn thread at     seats sold\n                       1    0\n   1      0 6:5        1    .   free = seats > 0\n   2      1 6:5        1    .   free = seats > 0\n   3      1 8:9       >0   >1   seats = seats - 1; sold = sold + 1  ended\n   4      0 8:9      >-1   >2   seats = seats - 1; sold = sold + 1  ended\nthread 0: ended\nthread 1: ended\n",
         ),
     ];
     &ROWS
