@@ -1,0 +1,2 @@
+-- turns that are made one after another
+pub mod Making

@@ -1,0 +1,2 @@
+-- turns that are added one after another
+pub mod Adding
