@@ -20,6 +20,7 @@ FUNCTION = re.compile(r"^(?:pub )?fn (\w+).*?^\{\n(.*?)^\}", re.M | re.S)
 TEXT = r'"((?:[^"\\]|\\.)*)"'
 CALL = re.compile(
     rf"\b(?:(?:text|wanted)\(\s*alloc,\s*{TEXT},\s*{TEXT},\s*{TEXT}|flag\(\s*alloc,\s*{TEXT},\s*{TEXT}"
+    rf"|short\('(\w)'\)\s*\.action\(ArgAction::Append\)\s*\.value_name\({TEXT}\)\s*\.help\({TEXT}"
     rf'|Arg::new\(alloc, "([A-Z]+)"\)|\.help\({TEXT}|(?:of_file|command_of)\(\s*alloc,\s*{TEXT},\s*{TEXT},\s*{TEXT}|(\w+)\(alloc)'
 )
 ADDED = re.compile(r"with_command\(.*\b(\w+)\(alloc\)\);?$", re.M)
@@ -56,11 +57,13 @@ def commands_of(source):
         name = about = example = takes = None
         options = []
         for found in CALL.finditer(bodies[function]):
-            option, value, help_, flag, of_flag, first, _, called, said, shown, other = found.groups()
+            option, value, help_, flag, of_flag, short, said_of, of_short, first, _, called, said, shown, other = found.groups()
             if option:
                 options.append(Option(option, value, plain(help_)))
             elif flag:
                 options.append(Option(flag, None, plain(of_flag)))
+            elif short:
+                options.append(Option(short, said_of, plain(of_short)))
             elif first:
                 takes = first
             elif called:
@@ -81,15 +84,20 @@ def ends():
     return WORD.findall(read(EXPLANATIONS))
 
 
+def dashed(name):
+    """An option with its dashes: one if its name is a letter."""
+    return f"-{name}" if len(name) == 1 else f"--{name}"
+
+
 def words_of(command):
     """The options of a command, with their dashes."""
-    return " ".join(f"--{it.name}" for it in [*command.options, HELP])
+    return " ".join(dashed(it.name) for it in [*command.options, HELP])
 
 
 def bash_text(_, commands):
     """What bash reads."""
     with_value = [it for command in commands for it in command.options if it.value]
-    free = sorted({f"--{it.name}" for it in with_value} - {f"--{it}" for it in [*FILES, *CHOICES]})
+    free = sorted({dashed(it.name) for it in with_value} - {f"--{it}" for it in [*FILES, *CHOICES]})
     named = " ".join(it.name for it in commands)
     cases = "".join(f"                    {it.name}) words='{words_of(it)}' ;;\n" for it in commands)
     choices = "".join(f"        --{name}) words='{' '.join(its)}' ;;\n" for name, its in CHOICES.items())
@@ -129,7 +137,8 @@ def zsh_option(option):
     told = option.help.replace("\\", "\\\\").replace("[", "\\[").replace("]", "\\]")
     action = "_files" if option.name in FILES else f"({' '.join(CHOICES.get(option.name, []))})"
     behind = f":{option.value}:{'' if action == '()' else action}" if option.value else ""
-    return quoted(f"--{option.name}[{told}]{behind}")
+    many = "*" if len(option.name) == 1 else ""
+    return quoted(f"{many}{dashed(option.name)}[{told}]{behind}")
 
 
 def zsh_text(_, commands):
@@ -171,7 +180,8 @@ def fish_text(_, commands):
         for option in [*it.options, HELP]:
             takes = " -r -F" if option.name in FILES else " -x" if option.value else ""
             takes += f" -a {quoted(' '.join(CHOICES[option.name]))}" if option.name in CHOICES else ""
-            lines.append(f"{seen} -l {option.name}{takes} -d {quoted(option.help)}")
+            form = "-s" if len(option.name) == 1 else "-l"
+            lines.append(f"{seen} {form} {option.name}{takes} -d {quoted(option.help)}")
     return "\n".join(lines) + "\n"
 
 
@@ -194,7 +204,7 @@ def man_text(program, commands):
         lines += [f".SS {it.name}", f"{roff(it.about)}."]
         for option in it.options:
             value = f" \\fI{option.value}\\fR" if option.value else ""
-            lines += [".TP", f"\\fB\\-\\-{roff(option.name)}\\fR{value}", roff(option.help)]
+            lines += [".TP", f"\\fB{roff(dashed(option.name))}\\fR{value}", roff(option.help)]
         example = it.example.partition("\n")[2].strip()
         lines += [".PP", f"Example: {roff(example)}"]
     lines += [".SH EXIT STATUS"]

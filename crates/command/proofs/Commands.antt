@@ -5,7 +5,7 @@ use Rattle.clap.specs.declared.error.Error.{Error}
 use Rattle.clap.specs.declared.error.kind.ErrorKind.{ErrorKind}
 use Rattle.clap.specs.declared.parser.matches.ArgMatches.{ArgMatches}
 use Rattle.clap.proofs.OnLiterals.{clap_on_literals}
-use Rattle.command.specs.declared.request.Request.{Request}
+use Rattle.command.specs.declared.request.Asked.{Asked}
 use Rattle.command.specs.declared.request.UsageFault.{UsageFault}
 use Rattle.command.specs.declared.request.UsageFault.TheVariants.{OutOfMemory, Help, Wrong}
 use Rattle.command.specs.Line.{program_app}
@@ -21,7 +21,7 @@ unfolding clap_on_literals
 program_app-is_free = refl
 
 -- what was met is what the words ask
-pub asked : (a : App) (words : List Text) (m : ArgMatches) (r : Request) → a ≡ program_app → HasMatchesOf a words m → (is_simple_and_free a ≡ true → fault_of a words ≡ []) → HasGiven (subcommand_rows_of m) r → Requests words r
+pub asked : (a : App) (words : List Text) (m : ArgMatches) (r : Asked) → a ≡ program_app → HasMatchesOf a words m → (is_simple_and_free a ≡ true → fault_of a words ≡ []) → HasGiven (subcommand_rows_of m) r → Requests words r
 asked a words m r same has none met = record {
   taken = ap (λ x. fault_of x words) (sym same) ∙ none (ap is_simple_and_free same ∙ program_app-is_free);
   name = met.name;
@@ -31,7 +31,7 @@ asked a words m r same has none met = record {
 }
 
 -- the program refuses words that the command line has, and that make no request
-pub own_refused : (a : App) (words : List Text) (m : ArgMatches) (f : UsageFault) → a ≡ program_app → HasMatchesOf a words m → (is_simple_and_free a ≡ true → fault_of a words ≡ []) → IsOwn ((r : Request) → HasGiven (subcommand_rows_of m) r → ⊥) f → Refuses words f
+pub own_refused : (a : App) (words : List Text) (m : ArgMatches) (f : UsageFault) → a ≡ program_app → HasMatchesOf a words m → (is_simple_and_free a ≡ true → fault_of a words ≡ []) → IsOwn ((r : Asked) → HasGiven (subcommand_rows_of m) r → ⊥) f → Refuses words f
 own_refused a words m OutOfMemory same has none own = tt
 own_refused a words m (Help text) same has none own = absurd own
 own_refused a words m (Wrong text) same has none own =

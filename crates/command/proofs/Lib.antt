@@ -12,3 +12,5 @@ mod Refusals
 mod Ranges
 -- what is given for arguments makes no task
 mod Tasks
+-- what words define
+mod Defining

@@ -1,5 +1,5 @@
 -- Numbers of threads that are given: one, or several in turn.
-use Rattle.std.proofs.Common.{◌⊎◌, inl, inr, ℕ, List, Option, Some, None}
+use Rattle.std.proofs.Common.{inl, inr, ℕ, List, Option, Some, None}
 use Rattle.std.specs.Prelude.{IsSomeAnd, codes}
 use Rattle.clap.specs.Words.{Row, Text, one_of}
 use Rattle.command.specs.Asked.{AreThreadsExplored, AreThreadsInTurn, IsNoNumber, IsNumberRead, IsSaidOr}

@@ -1,10 +1,11 @@
 -- The requests that words make.
 use Rattle.std.specs.Prelude.{◌≡◌, ◌≢◌, ◌⊎◌, ◌↔◌, ◌≤◌, ◌<◌, ◌==◌, ℕ, Bool, true, false, IsTrue, IsSomeAnd, List, []}
 use Rattle.std.specs.Prelude.{◌∷◌, ◌||◌, Option, Some, None, codes, filter, is_some, length, not, option_map}
-use Rattle.std.specs.Prelude.{string_bytes}
+use Rattle.std.specs.Prelude.{if◌then◌else◌, map, string_bytes, unwrap_or}
 use Rattle.std.specs.List.{slice_split}
+use Rattle.std.specs.Str.{bytes_eq}
 use Rattle.std.specs.Str.Parse.{IsNumeral, digits_value, without_leading_plus}
-use Rattle.clap.specs.Words.{IsAmong, Row, Text, fault_of, first_of, one_of, subcommand_of}
+use Rattle.clap.specs.Words.{IsAmong, Row, Text, all_of, fault_of, first_of, one_of, subcommand_of}
 use Rattle.clap.specs.declared.error.kind.ErrorKind.{ErrorKind}
 use Rattle.clap.specs.declared.error.kind.ErrorKind.TheVariants.{DisplayHelp, DisplayVersion}
 use Rattle.command.specs.declared.request.Against.{Against}
@@ -23,7 +24,10 @@ use Rattle.command.specs.declared.request.Steps.{Steps}
 use Rattle.command.specs.declared.request.Steps.TheVariants.{Order, Schedule, Seed}
 use Rattle.command.specs.declared.request.UsageFault.{UsageFault}
 use Rattle.command.specs.declared.request.UsageFault.TheVariants.{OutOfMemory, Help, Wrong}
+use Rattle.command.specs.declared.request.Asked.{Asked}
 use Rattle.command.specs.Line.{program_app}
+use Rattle.parameters.specs.declared.definition.Definition.{Definition}
+use Rattle.parameters.specs.Definitions.{IsDefinition, name_part}
 
 -- decimal digits alone, and their number, which is below 2 ^ 32
 abbrev pub IsDecimal : Text → ℕ → Type 0
@@ -280,17 +284,58 @@ IsRequest name given (ExplainEnd word number) = (name ≡ codes "explain")
     × (first_of (codes "NN") given ≡ Some (string_bytes word)) × IsSomeAnd (one_of (codes "NN") given) IsNoNumber
     × IsNumberRead (one_of (codes "N") given) number
 
--- the words are those of a command, and make this request
-pub record Requests (words : List Text) (request : Request) : Type 0 where
+-- the default number of threads of a command
+abbrev pub default_threads : Text → ℕ
+default_threads name = if bytes_eq name (codes "outcomes") || bytes_eq name (codes "trace") then 2 else 1
+
+-- the number of threads of a command, if it is a single one and no range; a command without threads has one
+abbrev pub IsCountOfThreads : Text → List Row → Option ℕ → Type 0
+IsCountOfThreads name given (Some n) = IsSaidOr (default_threads name) (one_of (codes "threads") given) n
+IsCountOfThreads name given None = IsSomeAnd (one_of (codes "threads") given) IsNoNumber
+
+-- what each word defines
+abbrev pub AreDefinitionsOf : (threads : Option ℕ) → List Text → List Definition → Type 0
+AreDefinitionsOf threads [] [] = Unit {0}
+AreDefinitionsOf threads (word ∷ words) (d ∷ ds) = IsDefinition threads word d × AreDefinitionsOf threads words ds
+AreDefinitionsOf threads _ _ = ⊥
+
+-- a name is one of these
+abbrev pub is_among : Text → List Text → Bool
+is_among name [] = false
+is_among name (n ∷ ns) = if bytes_eq n name then true else is_among name ns
+
+-- a name is there twice
+abbrev pub has_twice : List Text → Bool
+has_twice [] = false
+has_twice (n ∷ ns) = if is_among n ns then true else has_twice ns
+
+-- the words of `-D`
+abbrev pub words_defining : List Row → List Text
+words_defining given = unwrap_or (all_of (codes "define") given) []
+
+-- the numbers that stand in place of names; without `-D` there are none
+pub record AreDefinitions (name : Text) (given : List Row) (ds : List Definition) : Type 0 where
+  pub threads : Option ℕ
+  pub counted : IsCountOfThreads name given threads
+  pub each : AreDefinitionsOf threads (words_defining given) ds
+  pub once : has_twice (map name_part (words_defining given)) ≡ false
+
+-- a command and the values of its arguments ask this
+pub record IsCommanded (name : Text) (given : List Row) (asked : Asked) : Type 0 where
+  pub request_is : IsRequest name given asked.request
+  pub definitions_are : AreDefinitions name given asked.definitions.items
+
+-- the words are those of a command, and ask this
+pub record Requests (words : List Text) (asked : Asked) : Type 0 where
   pub taken : fault_of program_app words ≡ []
   pub name : Text
   pub given : List Row
   pub command : subcommand_of program_app words ≡ Some (name, given)
-  pub made : IsRequest name given request
+  pub made : IsCommanded name given asked
 
 -- words that request nothing
 abbrev pub AskNothing : List Text → Type 0
-AskNothing words = (request : Request) → Requests words request → ⊥
+AskNothing words = (asked : Asked) → Requests words asked → ⊥
 
 -- the words request help, or the version
 abbrev pub AskHelp : List Text → Type 0

@@ -1,7 +1,7 @@
 -- The command line of the program: its commands, and what each takes.
 use Rattle.std.specs.Prelude.{Some, true, codes}
 use Rattle.clap.specs.Words.{App, Rule, Text, new_app, new_rule, with_rule, with_subcommand}
-use Rattle.clap.specs.declared.builder.ArgAction.TheVariants.{Set, SetTrue}
+use Rattle.clap.specs.declared.builder.ArgAction.TheVariants.{Append, Set, SetTrue}
 
 -- the file with the program
 abbrev pub file_rule : Rule
@@ -14,6 +14,10 @@ flag_rule name = record (new_rule name) { long = Some name; action = Some SetTru
 -- an option of this name with a value
 abbrev pub text_rule : Text → Rule
 text_rule name = record (new_rule name) { long = Some name; action = Some Set; value_names = 1 }
+
+-- `-D`, any number of times
+abbrev pub define_rule : Rule
+define_rule = record (new_rule (codes "define")) { short = Some 68; action = Some Append; value_names = 1 }
 
 -- a required option
 abbrev pub wanted_rule : Text → Rule
@@ -34,8 +38,8 @@ trap_rule = record (new_rule (codes "N")) { action = Some Set }
 -- a command over a file
 abbrev pub file_app : Text → App
 file_app name =
-    with_rule (with_rule (with_rule (new_app name) file_rule) (flag_rule (codes "verbose")))
-    (text_rule (codes "format"))
+    with_rule (with_rule (with_rule (with_rule (new_app name) file_rule) (flag_rule (codes "verbose")))
+    (text_rule (codes "format"))) define_rule
 
 abbrev pub check_app : App
 check_app = with_rule (with_rule (file_app (codes "check")) (flag_rule (codes "warn"))) (flag_rule (codes "all"))

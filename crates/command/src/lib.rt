@@ -3,6 +3,7 @@
 
 mod claim;
 mod comparison;
+mod definitions;
 mod given;
 mod line;
 mod listed;
@@ -16,6 +17,6 @@ mod task;
 pub use listed::listed_order;
 pub use read::command;
 pub use request::{
-    Against, CheckOptions, Claim, Comparison, Format, Questions, Request, Steps, Task, ThreadRange,
-    UsageFault,
+    Against, Asked, CheckOptions, Claim, Comparison, Format, Questions, Request, Steps, Task,
+    ThreadRange, UsageFault,
 };

@@ -6,7 +6,7 @@ ghost use Rattle.command.specs.inner.Made.{IsMade};
 ghost use Rattle.command.specs.Line.{file_rule, flag_rule, fault_rule, text_rule, wanted_rule, order_rule, file_app};
 ghost use Rattle.command.specs.Line.{check_app, listing_app, run_app, replay_steps_app, replay_app, source_app};
 ghost use Rattle.command.specs.Line.{outcome_states_app, outcomes_app, certify_app, explain_app, commandless_app};
-ghost use Rattle.command.specs.Line.{program_app, trace_app, trap_rule};
+ghost use Rattle.command.specs.Line.{define_rule, program_app, trace_app, trap_rule};
 
 use clap::{Arg, ArgAction, Command};
 use std::alloc::{AllocError, Global};
@@ -128,6 +128,20 @@ fn format<'a>(alloc: Global) -> Arg<'a>
     )
 }
 
+/// Numbers in place of names.
+fn define<'a>(alloc: Global) -> Arg<'a>
+    ensures rule { rule_of result ≡ define_rule }
+    ensures global { result.global ≡ false }
+{
+    Arg::new(alloc, "define")
+        .short('D')
+        .action(ArgAction::Append)
+        .value_name("NAME=VALUE")
+        .help(
+            "Put a whole number in place of a name of FILE; the value threads is the number of threads [repeatable]",
+        )
+}
+
 /// A command over a file.
 fn of_file<'a>(
     alloc: Global,
@@ -139,7 +153,8 @@ fn of_file<'a>(
 {
     let command = with(Ok(command_of(alloc, name, about, example)), file(alloc));
     let command = with(command, verbose(alloc));
-    with(command, format(alloc))
+    let command = with(command, format(alloc));
+    with(command, define(alloc))
 }
 
 /// The command that checks a program.

@@ -3,16 +3,17 @@
 ghost use Rattle.std.specs.Prelude.{◌≡◌, IfOk, IfErr, IsSomeAnd, codes, map};
 ghost use Rattle.clap.specs.Words.{first_of, found_of, one_of, rows_of, subcommand_rows_of};
 ghost use Rattle.command.specs.declared.request.Format.{Format};
-ghost use Rattle.command.specs.declared.request.Request.{Request};
-ghost use Rattle.command.specs.Asked.{Requests, IsFormat, IsGiven, IsNoNumber, IsRequest, Refuses};
-ghost use Rattle.command.specs.inner.Refusals.{AreNoRequest, IsOwn, HasGiven, SaysError};
+ghost use Rattle.command.specs.declared.request.Asked.{Asked};
+ghost use Rattle.command.specs.Asked.{Requests, IsCommanded, IsFormat, IsGiven, IsNoNumber, IsRequest, Refuses};
+ghost use Rattle.command.specs.inner.Refusals.{AreNoRequest, AskNoMore, IsOwn, HasGiven, SaysError};
 
 use crate::claim::claim;
 use crate::comparison::{compares, comparison};
+use crate::definitions::definitions;
 use crate::given::{NoNumber, flag_given, read_number, text_given, text_wanted, wrong};
 use crate::line::program;
 use crate::questions::{asks, questions};
-use crate::request::{Format, Request, UsageFault};
+use crate::request::{Asked, Format, Request, UsageFault};
 use crate::task::task;
 use clap::error::ErrorKind;
 use clap::{ArgMatches, Error};
@@ -22,13 +23,13 @@ use std::alloc::Global;
 ///
 /// A command or an option that the program does not have is `Wrong`. Memory is taken from the global allocator, as
 /// `clap` does.
-pub fn command(alloc: Global, words: &[&str]) -> Result<Request, UsageFault>
+pub fn command(alloc: Global, words: &[&str]) -> Result<Asked, UsageFault>
     ensures ok { IfOk result (Requests (map (λ w. w.now) words.now)) }
     ensures err { IfErr result (Refuses (map (λ w. w.now) words.now)) }
 {
     let program = program(alloc)?;
     match program.try_get_matches_from(words) {
-        Ok(matches) => request(alloc, &matches),
+        Ok(matches) => asked(alloc, &matches),
         Err(error) => Err(refusal(alloc, &error)),
     }
 }
@@ -47,13 +48,13 @@ fn refusal(alloc: Global, error: &Error) -> UsageFault
     }
 }
 
-/// The request of words that the command line has.
-fn request(alloc: Global, matches: &ArgMatches<'_>) -> Result<Request, UsageFault>
+/// What words ask that the command line has.
+fn asked(alloc: Global, matches: &ArgMatches<'_>) -> Result<Asked, UsageFault>
     ensures ok { IfOk result (HasGiven (subcommand_rows_of matches.now)) }
-    ensures err { IfErr result (IsOwn ((r : Request) → HasGiven (subcommand_rows_of matches.now) r → ⊥)) }
+    ensures err { IfErr result (IsOwn ((a : Asked) → HasGiven (subcommand_rows_of matches.now) a → ⊥)) }
 {
     match matches.subcommand() {
-        Some((name, given)) => request_of(alloc, name, given),
+        Some((name, given)) => asked_of(alloc, name, given),
         None => Err(wrong(alloc, "a command is wanted")),
     }
 }
@@ -110,6 +111,19 @@ fn end_explained(alloc: Global, given: &ArgMatches<'_>) -> Result<Request, Usage
         }),
         Err(NoNumber) => Err(wrong(alloc, "no trap has this number")),
     }
+}
+
+/// What a command asks, with what is given for its arguments.
+fn asked_of(alloc: Global, name: &str, given: &ArgMatches<'_>) -> Result<Asked, UsageFault>
+    ensures ok { IfOk result (IsCommanded name.now (rows_of (found_of given.now))) }
+    ensures err { IfErr result (IsOwn (AskNoMore name.now (rows_of (found_of given.now)))) }
+{
+    let request = request_of(alloc, name, given)?;
+    let definitions = definitions(alloc, name, given)?;
+    Ok(Asked {
+        request,
+        definitions,
+    })
 }
 
 /// The request of a command, and what is given for its arguments.

@@ -2,8 +2,16 @@
 
 ghost use Rattle.std.specs.Prelude.{◌≡◌};
 
+use parameters::Definition;
 use std::alloc::AllocError;
 use thiserror::Error;
+
+/// What words ask: a request, and the numbers that stand in place of names of its sources.
+#[derive(Debug, Drop)]
+pub struct Asked {
+    pub request: Request,
+    pub definitions: Vec<Definition>,
+}
 
 /// A request.
 #[derive(Debug, Drop)]

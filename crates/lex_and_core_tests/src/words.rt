@@ -7,8 +7,13 @@ use std::alloc::{AllocError, Global};
 
 /// What words ask.
 fn request_of_words(alloc: Global, words: &[&str]) -> Result<String, AllocError> {
-    let asked = command(alloc, words);
-    format!(in alloc; "{asked:?}")
+    match command(alloc, words) {
+        Ok(asked) if asked.definitions.is_empty() => {
+            format!(in alloc; "Ok({:?})", asked.request)
+        }
+        Ok(asked) => format!(in alloc; "Ok({:?}, {:?})", asked.definitions, asked.request),
+        Err(fault) => format!(in alloc; "Err({fault:?})"),
+    }
 }
 
 /// What a line asks.
@@ -876,4 +881,53 @@ fn helps_with_ranges(rt: HostRuntime) {
 fn tells_its_version(rt: HostRuntime) {
     let told = br#"Err(Help { text: "txc 0.2.0\n" })"#;
     assert_that(&rt, asks(rt.alloc(), "txc|--version", told.as_slice()));
+}
+
+/// Numbers in place of names.
+fn definitions() -> &'static [Row] {
+    static ROWS: [Row; 9] = [
+        (
+            "txc|listing|a.c|-D|N=3|-DM=-4",
+            br#"Ok([Definition { name: "N", number: Number { is_negative: false, magnitude: 3 } }, Definition { name: "M", number: Number { is_negative: true, magnitude: 4 } }], Program { file: "a.c", verbose: false, format: Plain, task: Listing })"#,
+        ),
+        (
+            "txc|source|a.c|--threads|7|--order||-D|N=threads",
+            br#"Ok([Definition { name: "N", number: Number { is_negative: false, magnitude: 7 } }], Program { file: "a.c", verbose: false, format: Plain, task: Source { threads: 7, order: [], ticks: 100000 } })"#,
+        ),
+        (
+            "txc|trace|a.c|--order||-D|N=threads",
+            br#"Ok([Definition { name: "N", number: Number { is_negative: false, magnitude: 2 } }], Program { file: "a.c", verbose: false, format: Plain, task: Trace { threads: 2, order: [], property: None } })"#,
+        ),
+        // a range of numbers of threads is no number
+        (
+            "txc|outcomes|a.c|--threads|2..4|-D|N=threads",
+            br#"Err(Wrong { text: "txc: usage: -D N=threads wants one number of threads\n" })"#,
+        ),
+        (
+            "txc|check|a.c|-D|N=1|-D|N=1",
+            br#"Err(Wrong { text: "txc: usage: -D N is given twice\n" })"#,
+        ),
+        (
+            "txc|check|a.c|-D|int=1",
+            br#"Err(Wrong { text: "txc: usage: -D int=1 is no NAME=VALUE: a name of FILE, and a whole number or `threads`\n" })"#,
+        ),
+        (
+            "txc|check|a.c|-D|N=+1",
+            br#"Err(Wrong { text: "txc: usage: -D N=+1 is no NAME=VALUE: a name of FILE, and a whole number or `threads`\n" })"#,
+        ),
+        (
+            "txc|check|a.c|-D|N=9223372036854775808",
+            br#"Err(Wrong { text: "txc: usage: -D N=9223372036854775808 is no NAME=VALUE: a name of FILE, and a whole number or `threads`\n" })"#,
+        ),
+        (
+            "txc|check|a.c|-D|N",
+            br#"Err(Wrong { text: "txc: usage: -D N is no NAME=VALUE: a name of FILE, and a whole number or `threads`\n" })"#,
+        ),
+    ];
+    &ROWS
+}
+
+#[test]
+fn reads_definitions(rt: HostRuntime) {
+    assert_none(&rt, ask_otherwise(rt.alloc(), definitions()));
 }

@@ -56,5 +56,7 @@ pub mod Properties
 pub mod Answers
 -- the files that a request names
 pub mod Files
+-- numbers in place of names of sources
+pub mod Numbers
 -- definitions for private functions alone
 pub mod inner

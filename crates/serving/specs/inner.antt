@@ -20,3 +20,5 @@ pub mod Compared
 pub mod Askable
 -- the values of properties in the states of a walk
 pub mod Properties
+-- files with numbers in place of names
+pub mod Numbers

@@ -20,6 +20,7 @@ pub mod laws;
 mod listed_bytes;
 mod listed_ends;
 mod listing;
+mod numbers;
 mod pictures;
 mod print;
 mod program;
@@ -38,8 +39,9 @@ mod trace;
 mod walked;
 
 pub use all_outcomes::list_outcomes;
-pub use files::{Files, SourceText, read_bytes, read_source, schedule_of, serve_files};
+pub use files::{Files, SourceText, read_bytes, read_source, schedule_of};
 pub use listing::list_source;
+pub use numbers::serve_asked;
 pub use program::{Compiled, SourceFault, compile};
 pub use replays::{Replayed, lines_shown, replay_code};
 pub use request::serve_alone;

@@ -2,14 +2,14 @@
 
 use crate::opened::{Found, NONE, Opened, REFUSED, Told};
 use crate::served::Closed;
-use serving::{Files, serve_files, tell_usage};
+use serving::{Files, serve_asked, tell_usage};
 use std::alloc::Global;
 use std::io;
 use std::io::{ErrorKind, Write};
 use std::sync::Wait;
 use std::thread::Threads;
 use std::time::Clock;
-use test_serving::{ADDS, ServeResult, request_of};
+use test_serving::{ADDS, ServeResult, asked_of};
 
 /// The three files that there are.
 #[derive(Drop)]
@@ -298,8 +298,8 @@ fn answer<H: Threads + Wait + Clock + Sync, W: Write>(
     out: &mut W,
     told: &mut Told,
 ) -> u8 {
-    match request_of(alloc, line) {
-        Ok(request) => serve_files(rt, alloc, &request, files, out, told),
+    match asked_of(alloc, line) {
+        Ok(asked) => serve_asked(rt, alloc, &asked, files, out, told),
         Err(fault) => tell_usage(&fault, out, told),
     }
 }

@@ -95,7 +95,7 @@ pub(crate) const REFUSED: Found = Err(ErrorKind::OutOfMemory);
 const OUT_OF_MEMORY: ServeResult<'static> = (4, b"", b"txc: out of memory\n");
 
 fn rows() -> &'static [Row] {
-    static ROWS: [Row; 18] = [
+    static ROWS: [Row; 21] = [
         // words that make no request open no file
         (
             "txc run a.c --threads 65",
@@ -218,6 +218,31 @@ fn rows() -> &'static [Row] {
             ),
             false,
             (0, b"as expected\n", b""),
+        ),
+        // numbers stand in place of names, of name tokens alone
+        (
+            "txc source a.c --order 0 -D N=-3 -D W=7",
+            Ok(
+                b"int NN; int x = N; /* N */ void worker(int self) { __transaction_atomic { NN = 5 -N; x = W; } }",
+            ),
+            NONE,
+            false,
+            (0, b"== thread 0: ended\n== memory\nNN = 8\nx = 7\n", b""),
+        ),
+        (
+            "txc check a.c -D y=3",
+            Ok(ADDS),
+            NONE,
+            false,
+            (2, b"", b"txc: -D y: no such name in a.c\n"),
+        ),
+        // and in the other program too
+        (
+            "txc outcomes a.c --threads 1 --refines s.txt -D N=1",
+            Ok(ADDS),
+            Ok(b"int x; void worker(int self) { __transaction_atomic { x = x + N; } }"),
+            false,
+            (0, b"== refines s.txt: outcomes 1 of 1, threads: 1\n", b""),
         ),
         // it is said whose fault it is
         (

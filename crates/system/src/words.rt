@@ -9,8 +9,8 @@ ghost use Rattle.system.specs.Words.{AnswersWords, IsServed};
 use crate::kept::{KeptFile, KeptFiles, keep_files};
 use crate::recorder::{Begun, Recorder};
 use crate::sent::Sent;
-use command::{Request, UsageFault, command};
-use serving::{Files, serve_files, tell_usage};
+use command::{Asked, UsageFault, command};
+use serving::{Files, serve_asked, tell_usage};
 use std::alloc::Global;
 use std::io::{IsTerminal, Write};
 use std::marker::Brand;
@@ -39,22 +39,22 @@ struct Served<W> {
     out: W,
 }
 
-/// Does what a request asks, over files that are kept.
+/// Does what is asked, over files that are kept.
 fn serve_kept<
     B: Begun,
     H: Threads + Wait + Clock + Sync,
     W: Write + Drop,
     E: Write + IsTerminal + Send,
->(rt: &H, alloc: Global, request: &Request, kept: &[KeptFile], out: W, err: &mut E) -> Served<W>
+>(rt: &H, alloc: Global, asked: &Asked, kept: &[KeptFile], out: W, err: &mut E) -> Served<W>
     requires begun { W.contents out ≡ B.begun }
-    requires known { AreKnown request.now (kept_in kept.now) }
+    requires known { AreKnown asked.now.request (kept_in kept.now) }
     ensures status { result.status ≤ 5 }
-    ensures answer { IsServed request.now (kept_in kept.now) result.status (Some []) (Some result.printed.bytes) }
+    ensures answer { IsServed asked.now (kept_in kept.now) result.status (Some []) (Some result.printed.bytes) }
     ensures passed { Appends B.begun (W.contents result.out) result.printed.bytes }
 {
     let mut out: Recorder<W, B> = Recorder::new(out);
     let files = KeptFiles { files: kept };
-    let status = serve_files(rt, alloc, request, &files, &mut out, err);
+    let status = serve_asked(rt, alloc, asked, &files, &mut out, err);
     let (printed, out) = out.into_parts();
     Served {
         status,
@@ -92,17 +92,17 @@ fn serve_request<
     F: Files,
     W: Write + Drop,
     E: Write + IsTerminal + Send,
->(rt: &H, alloc: Global, request: &Request, files: &F, out: W, err: &mut E) -> Answer<W>
+>(rt: &H, alloc: Global, asked: &Asked, files: &F, out: W, err: &mut E) -> Answer<W>
     ensures status { result.status ≤ 5 }
-    ensures answer { IsServed request.now (kept_in result.files.items) result.status (Some [])
+    ensures answer { IsServed asked.now (kept_in result.files.items) result.status (Some [])
         (Some result.printed.bytes) }
     ensures passed { Appends (W.contents out) (W.contents result.out) result.printed.bytes }
     ensures read { AreReadFrom (F.contents files.now) result.files.items }
 {
-    match keep_files(alloc, request, files, err) {
+    match keep_files(alloc, &asked.request, files, err) {
         Ok(files) => {
             let kept = files.as_slice();
-            let served = serve_kept::<Brand, H, W, E>(rt, alloc, request, kept, out, err);
+            let served = serve_kept::<Brand, H, W, E>(rt, alloc, asked, kept, out, err);
             Answer {
                 status: served.status,
                 printed: served.printed,
@@ -141,7 +141,7 @@ fn tell_fault<W: Write + Drop, E: Write>(
     }
 }
 
-/// Reads the words of a command line, the program's own name first, and does what they ask, as `serve_files` does, over
+/// Reads the words of a command line, the program's own name first, and does what they ask, as `serve_asked` does, over
 /// files that are read first. Help and the version go to `out`; what is wrong with words goes to `err`, with the status
 /// 2, as does why a file can't be read.
 pub fn serve_words<
@@ -157,7 +157,7 @@ pub fn serve_words<
     ensures read { AreReadFrom (F.contents files.now) result.files.items }
 {
     match command(alloc, words) {
-        Ok(request) => serve_request(rt, alloc, &request, files, out, err),
+        Ok(asked) => serve_request(rt, alloc, &asked, files, out, err),
         Err(fault) => tell_fault(alloc, &fault, out, err),
     }
 }

@@ -1,7 +1,7 @@
 //! Test support: what is answered to command lines, over readers and writers in memory.
 #![tactic(auto)]
 
-use command::{Request, UsageFault, command};
+use command::{Asked, Request, UsageFault, command};
 use serving::serve;
 use std::alloc::Global;
 use std::io;
@@ -38,10 +38,16 @@ pub fn is_answer(served: &Served, wanted: ServeResult) -> bool {
         && served.err.as_slice() == wanted.2
 }
 
-/// The request of a command line, in which a space ends each word but the last.
-pub fn request_of(alloc: Global, line: &str) -> Result<Request, UsageFault> {
+/// What a command line asks, in which a space ends each word but the last.
+pub fn asked_of(alloc: Global, line: &str) -> Result<Asked, UsageFault> {
     let words: Vec<&str> = line.split(' ').collect(alloc)?;
     command(alloc, words.as_slice())
+}
+
+/// The request of a command line, without its numbers for names.
+pub fn request_of(alloc: Global, line: &str) -> Result<Request, UsageFault> {
+    let Asked { request, .. } = asked_of(alloc, line)?;
+    Ok(request)
 }
 
 /// Serves a request, to a terminal or not.

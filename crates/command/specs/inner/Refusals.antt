@@ -4,11 +4,12 @@ use Rattle.clap.specs.Words.{Row, Text, kind_of}
 use Rattle.clap.specs.declared.error.Error.{Error}
 use Rattle.clap.specs.declared.error.kind.ErrorKind.TheVariants.{DisplayHelp, DisplayVersion}
 use Rattle.clap.specs.declared.error.kind.ErrorKind.TheVariants as kind
+use Rattle.command.specs.declared.request.Asked.{Asked}
 use Rattle.command.specs.declared.request.Request.{Request}
 use Rattle.command.specs.declared.request.Task.{Task}
 use Rattle.command.specs.declared.request.UsageFault.{UsageFault}
 use Rattle.command.specs.declared.request.UsageFault.TheVariants.{OutOfMemory, Help, Wrong}
-use Rattle.command.specs.Asked.{IsNumberInRange, IsRequest, IsTask}
+use Rattle.command.specs.Asked.{IsCommanded, IsNumberInRange, IsRequest, IsTask}
 
 -- no help: words that the command line accepts, and that are refused because this holds, or an allocation failure
 abbrev pub IsOwn : Type 0 → UsageFault → Type 0
@@ -33,9 +34,12 @@ SaysError e OutOfMemory = Unit {0}
 SaysError e (Help text) = (kind_of e ≡ DisplayHelp) ⊎ (kind_of e ≡ DisplayVersion)
 SaysError e (Wrong text) = (kind_of e ≢ kind.OutOfMemory) × (kind_of e ≢ DisplayHelp) × (kind_of e ≢ DisplayVersion)
 
--- the words name a command, and its arguments make this request
-pub record HasGiven (met : Option (Text × List Row)) (request : Request) : Type 0 where
+abbrev pub AskNoMore : Text → List Row → Type 0
+AskNoMore name given = (asked : Asked) → IsCommanded name given asked → ⊥
+
+-- the words name a command, and its arguments ask this
+pub record HasGiven (met : Option (Text × List Row)) (asked : Asked) : Type 0 where
   pub name : Text
   pub given : List Row
   pub command : met ≡ Some (name, given)
-  pub made : IsRequest name given request
+  pub made : IsCommanded name given asked

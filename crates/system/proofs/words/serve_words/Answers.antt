@@ -1,4 +1,8 @@
+use Rattle.std.proofs.Common.{inl}
 use Rattle.system.proofs.words.serve_words.Goals as goal
+
+pub returns-in-Ok-clause-answer : goal.returns-in-Ok-clause-answer
+returns-in-Ok-clause-answer g c = inl (c.in-Ok.asked, c.in-Ok.ensures.ok, c.serve_request.ensures.answer)
 
 pub returns-in-Err-clause-answer : goal.returns-in-Err-clause-answer
 returns-in-Err-clause-answer g c = c.tell_fault.ensures.answer _ c.in-Err.ensures.err

@@ -1,0 +1,4 @@
+-- texts, their tokens and their faults
+mod Texts
+-- what words define
+mod Words
