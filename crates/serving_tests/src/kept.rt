@@ -16,6 +16,8 @@ enum Gives {
     Bytes(&'static [u8]),
     /// Blanks without end.
     Blanks,
+    /// So many blanks.
+    SomeBlanks(usize),
     /// An error at the first read.
     Error,
 }
@@ -28,12 +30,21 @@ impl Read for Gives {
                 buf.fill(b' ');
                 Ok(buf.len())
             }
+            Gives::SomeBlanks(left) => {
+                let count = buf.len().min(*left);
+                buf[..count].fill(b' ');
+                *left -= count;
+                Ok(count)
+            }
             Gives::Error => Err(io::Error::from(ErrorKind::IsADirectory)),
         }
     }
 }
 
-/// A file `a.c` with a syntax error, a file `blanks` that does not end, and others that can't be read.
+/// The size of the file `long`, larger than a source may be.
+const LONG: usize = 1_500_000;
+
+/// A file `a.c` with a syntax error, a file `blanks` that does not end, a file `long`, and others that can't be read.
 #[derive(Drop)]
 struct OddFiles {}
 
@@ -48,6 +59,7 @@ impl Files for OddFiles {
         match name {
             "a.c" => Ok(Gives::Bytes(b"int")),
             "blanks" => Ok(Gives::Blanks),
+            "long" => Ok(Gives::SomeBlanks(LONG)),
             _ => Ok(Gives::Error),
         }
     }
@@ -101,4 +113,27 @@ fn a_source_is_read_until_it_is_too_long(rt: HostRuntime) {
 fn each_file_is_read_before_the_source_is_checked(rt: HostRuntime) {
     let told = b"txc: cannot read s.txt\n".as_slice();
     assert!(rt; reads(&rt, rt.alloc(), REPLAY, 2, told, &[]));
+}
+
+#[test]
+fn a_schedule_an_order_a_report_and_a_list_are_read_whole(rt: HostRuntime) {
+    static ROWS: [(&str, &[usize]); 3] = [
+        ("txc replay a.c --schedule long", &[3, LONG]),
+        (
+            "txc certify a.c --order-file long --report long",
+            &[3, LONG, LONG],
+        ),
+        ("txc outcomes a.c --expect long", &[3, LONG]),
+    ];
+    let told = b"txc: fault 12 at 1:4: unexpected end\n".as_slice();
+    for (line, counts) in &ROWS {
+        assert!(rt; reads(&rt, rt.alloc(), line, 1, told, counts), "{line}");
+    }
+}
+
+#[test]
+fn a_program_that_is_compared_is_read_until_it_is_too_long(rt: HostRuntime) {
+    let told = b"txc: fault 12 at 1:4: unexpected end\n".as_slice();
+    let line = "txc outcomes a.c --refines long";
+    assert!(rt; reads(&rt, rt.alloc(), line, 1, told, &[3, 1_048_577]));
 }

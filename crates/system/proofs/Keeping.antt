@@ -3,6 +3,7 @@ use Rattle.std.proofs.Common.{◌≡◌, ◌++◌, ℕ, Bool, true, false, List,
 use Rattle.std.specs.Prelude.{bytes_eq, is_some, string_bytes}
 use Rattle.std.proofs.lemmas.Bool.{false≢true}
 use Rattle.std.proofs.lemmas.Slice.Eq.{bytes_eq-Decides}
+use Rattle.command.specs.declared.request.Request.{Request}
 use Rattle.serving.specs.Files.{Contents}
 use Rattle.system.specs.Kept.{AreReadFrom, IsReadFrom, IsFileKnown, StayKnown, kept_in}
 use Rattle.system.specs.declared.kept.KeptFile.{KeptFile}
@@ -26,6 +27,6 @@ last_known [] file = ap (λ b. is_some (cond b (Some file.bytes.items) None)) ((
 last_known (f ∷ files) file = known_either (bytes_eq (string_bytes f.name) (string_bytes file.name)) f.bytes.items (kept_in (files ++ file ∷ []) (string_bytes file.name)) (last_known files file)
 
 -- one more was read so
-pub one_more_read : (contents : Contents) (files : List KeptFile) (file : KeptFile) → AreReadFrom contents files → IsReadFrom contents file → AreReadFrom contents (files ++ file ∷ [])
-one_more_read contents [] file before this = (this, tt)
-one_more_read contents (f ∷ files) file before this = (before.0, one_more_read contents files file before.1 this)
+pub one_more_read : (request : Request) (contents : Contents) (files : List KeptFile) (file : KeptFile) → AreReadFrom request contents files → IsReadFrom request contents file → AreReadFrom request contents (files ++ file ∷ [])
+one_more_read request contents [] file before this = (this, tt)
+one_more_read request contents (f ∷ files) file before this = (before.0, one_more_read request contents files file before.1 this)

@@ -1,10 +1,11 @@
 -- Files that were read, by their names.
 use Rattle.std.specs.Prelude.{◌≡◌, ◌⊎◌, ℕ, true, List, [], ◌∷◌, Some, None, IfSome, bytes_eq, if◌then◌else◌}
-use Rattle.std.specs.Prelude.{is_some, string_bytes, take}
+use Rattle.std.specs.Prelude.{is_some, string_bytes}
 use Rattle.command.specs.declared.request.Request.{Request}
 use Rattle.command.specs.declared.request.Request.TheVariants.{Program, Certify, Compare, Ask, Explain, ExplainEnd}
 use Rattle.serving.specs.Compared.{name_of}
 use Rattle.serving.specs.Files.{Contents, schedule_of}
+use Rattle.serving.specs.Numbers.{IsSource, read_of}
 use Rattle.system.specs.declared.kept.KeptFile.{KeptFile}
 
 -- the bytes that were read of the file of each name
@@ -13,15 +14,16 @@ kept_in [] name = None
 kept_in (file ∷ files) name =
     if bytes_eq (string_bytes file.name) name then Some file.bytes.items else kept_in files name
 
--- a file was read to its end, or up to one byte past the most that a source may have
-abbrev pub IsReadFrom : Contents → KeptFile → Type 0
-IsReadFrom contents file = IfSome (contents (string_bytes file.name))
-    (λ bytes. (file.bytes.items ≡ bytes) ⊎ (file.bytes.items ≡ take 1048577 bytes))
+-- a file of a request was read to its end, or is a source and was read up to one byte past the most that it may have
+abbrev pub IsReadFrom : Request → Contents → KeptFile → Type 0
+IsReadFrom request contents file = IfSome (contents (string_bytes file.name))
+    (λ bytes. (file.bytes.items ≡ bytes)
+    ⊎ IsSource request (string_bytes file.name) × (file.bytes.items ≡ read_of bytes))
 
 -- each file was read so
-abbrev pub AreReadFrom : Contents → List KeptFile → Type 0
-AreReadFrom contents [] = Unit {0}
-AreReadFrom contents (file ∷ files) = IsReadFrom contents file × AreReadFrom contents files
+abbrev pub AreReadFrom : Request → Contents → List KeptFile → Type 0
+AreReadFrom request contents [] = Unit {0}
+AreReadFrom request contents (file ∷ files) = IsReadFrom request contents file × AreReadFrom request contents files
 
 -- the bytes of the file of this name are known
 abbrev pub IsFileKnown : Contents → List ℕ → Type 0

@@ -1,10 +1,11 @@
 -- The response to the words of a command line, over files that were read.
-use Rattle.std.specs.Prelude.{◌≡◌, ◌⊎◌, ℕ, List, Option}
+use Rattle.std.specs.Prelude.{◌≡◌, ◌⊎◌, ℕ, List, [], Option}
 use Rattle.command.specs.Asked.{AskHelp, AskNothing, Requests}
 use Rattle.command.specs.declared.request.Asked.{Asked}
 use Rattle.serving.specs.Files.{Contents}
 use Rattle.serving.specs.Numbers.{ServesAsked}
-use Rattle.system.specs.Kept.{AreKnown}
+use Rattle.system.specs.Kept.{AreKnown, AreReadFrom}
+use Rattle.system.specs.declared.kept.KeptFile.{KeptFile}
 
 -- A request is answered, with numbers in place of names if `-D` is given, and each file that it names was read; or
 -- nothing is printed, as one of these could not be read, or a name that is defined is in no source.
@@ -20,3 +21,8 @@ AnswersWords words contents status old new =
     ⊎ AskHelp words × ((status ≡ 0) ⊎ (status ≡ 4))
     ⊎ AskNothing words × (status ≡ 2) × (new ≡ old)
     ⊎ (status ≡ 4) × (new ≡ old)
+
+-- words make a request, and each of these files was read for it; or none was read
+abbrev pub AreReadFor : (words : List (List ℕ)) → Contents → List KeptFile → Type 0
+AreReadFor words contents files =
+    ((asked : Asked) × Requests words asked × AreReadFrom asked.request contents files) ⊎ (files ≡ [])

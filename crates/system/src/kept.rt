@@ -1,7 +1,9 @@
 //! Files that were read, and are kept.
 
-ghost use Rattle.std.specs.Prelude.{◌≡◌, ◌⊎◌, IfErr, IfOk, IfSome, OnOk, option_map, string_bytes, take};
+ghost use Rattle.std.specs.Prelude.{◌≡◌, ◌⊎◌, IfErr, IfOk, IfSome, List, OnOk, false, option_map, string_bytes, true, ℕ};
+ghost use Rattle.command.specs.declared.request.Request.{Request};
 ghost use Rattle.serving.specs.Compared.{name_of};
+ghost use Rattle.serving.specs.Numbers.{IsSource, other_of};
 ghost use Rattle.system.specs.Kept.{AreKnown, AreReadFrom, IsFileKnown, IsReadFrom, StayKnown, kept_in};
 
 use command::{Against, Format, Request};
@@ -82,7 +84,8 @@ impl<'n> NamedFile<'n> {
 
     /// A file of any length.
     fn whole(name: &'n str, verbose: bool) -> NamedFile<'n>
-        ensures { result.name.now ≡ name.now }
+        ensures name { result.name.now ≡ name.now }
+        ensures whole { result.is_source ≡ false }
     {
         NamedFile {
             name,
@@ -93,7 +96,8 @@ impl<'n> NamedFile<'n> {
 
     /// The other side of a comparison.
     fn against(against: &'n Against, verbose: bool) -> NamedFile<'n>
-        ensures { result.name.now ≡ name_of against.now }
+        ensures name { result.name.now ≡ name_of against.now }
+        ensures source { (file : List ℕ) → result.is_source ≡ true → result.name.now ≡ other_of file against.now }
     {
         match against {
             Against::Refined { file } => NamedFile::source(file.as_str(), verbose),
@@ -105,7 +109,8 @@ impl<'n> NamedFile<'n> {
 /// Reads a file.
 fn read_file<F: Files>(alloc: Global, named: &NamedFile<'_>, files: &F) -> io::Result<KeptFile>
     ensures name { IfOk result (λ file. string_bytes file.name ≡ named.now.name.now) }
-    ensures bytes { IfOk result (λ file. IsReadFrom (F.contents files.now) file) }
+    ensures bytes { (request : Request) → (named.now.is_source ≡ true → IsSource request named.now.name.now)
+        → IfOk result (λ file. IsReadFrom request (F.contents files.now) file) }
 {
     let name = String::from_str(alloc, named.name)?;
     let file = files.open(named.name)?;
@@ -126,8 +131,9 @@ fn read_into<F: Files>(
 ) -> io::Result<()>
     ensures known { OnOk result (IsFileKnown (kept_in kept.new.items) named.now.name.now) }
     ensures others { OnOk result (StayKnown (kept_in kept.old.items) (kept_in kept.new.items)) }
-    ensures read { OnOk result (AreReadFrom (F.contents files.now) kept.old.items
-        → AreReadFrom (F.contents files.now) kept.new.items) }
+    ensures read { (request : Request) → (named.now.is_source ≡ true → IsSource request named.now.name.now)
+        → OnOk result (AreReadFrom request (F.contents files.now) kept.old.items
+        → AreReadFrom request (F.contents files.now) kept.new.items) }
 {
     let file = read_file(alloc, named, files)?;
     kept.push(file)?;
@@ -144,8 +150,9 @@ fn keep<F: Files, E: Write>(
 ) -> Result<(), u8>
     ensures known { OnOk result (IsFileKnown (kept_in kept.new.items) named.now.name.now) }
     ensures others { OnOk result (StayKnown (kept_in kept.old.items) (kept_in kept.new.items)) }
-    ensures read { OnOk result (AreReadFrom (F.contents files.now) kept.old.items
-        → AreReadFrom (F.contents files.now) kept.new.items) }
+    ensures read { (request : Request) → (named.now.is_source ≡ true → IsSource request named.now.name.now)
+        → OnOk result (AreReadFrom request (F.contents files.now) kept.old.items
+        → AreReadFrom request (F.contents files.now) kept.new.items) }
     ensures status { IfErr result (λ s. (s ≡ 2) ⊎ (s ≡ 4)) }
 {
     match read_into(alloc, named, files, kept) {
@@ -165,7 +172,7 @@ pub(crate) fn keep_files<F: Files, E: Write>(
     err: &mut E,
 ) -> Result<Vec<KeptFile>, u8>
     ensures known { IfOk result (λ kept. AreKnown request.now (kept_in kept.items)) }
-    ensures read { IfOk result (λ kept. AreReadFrom (F.contents files.now) kept.items) }
+    ensures read { IfOk result (λ kept. AreReadFrom request.now (F.contents files.now) kept.items) }
     ensures status { IfErr result (λ s. (s ≡ 2) ⊎ (s ≡ 4)) }
 {
     let mut kept = Vec::new(alloc);

@@ -4,7 +4,7 @@ ghost use Rattle.std.specs.Prelude.{◌≡◌, ◌≤◌, [], List, Some, map, �
 ghost use Rattle.std.specs.Io.KnownBytes.{Appends};
 ghost use Rattle.command.specs.Asked.{Refuses};
 ghost use Rattle.system.specs.Kept.{AreKnown, AreReadFrom, kept_in};
-ghost use Rattle.system.specs.Words.{AnswersWords, IsServed};
+ghost use Rattle.system.specs.Words.{AnswersWords, AreReadFor, IsServed};
 
 use crate::kept::{KeptFile, KeptFiles, keep_files};
 use crate::recorder::{Begun, Recorder};
@@ -97,7 +97,7 @@ fn serve_request<
     ensures answer { IsServed asked.now (kept_in result.files.items) result.status (Some [])
         (Some result.printed.bytes) }
     ensures passed { Appends (W.contents out) (W.contents result.out) result.printed.bytes }
-    ensures read { AreReadFrom (F.contents files.now) result.files.items }
+    ensures read { AreReadFrom asked.now.request (F.contents files.now) result.files.items }
 {
     match keep_files(alloc, &asked.request, files, err) {
         Ok(files) => {
@@ -154,7 +154,7 @@ pub fn serve_words<
     ensures answer { AnswersWords (map (λ w. w.now) words.now) (kept_in result.files.items) result.status
         (Some []) (Some result.printed.bytes) }
     ensures passed { Appends (W.contents out) (W.contents result.out) result.printed.bytes }
-    ensures read { AreReadFrom (F.contents files.now) result.files.items }
+    ensures read { AreReadFor (map (λ w. w.now) words.now) (F.contents files.now) result.files.items }
 {
     match command(alloc, words) {
         Ok(asked) => serve_request(rt, alloc, &asked, files, out, err),

@@ -3,8 +3,8 @@
 
 ghost use Rattle.std.specs.Prelude.{◌≡◌, ◌≤◌, [], IfOk, None, Some, map, string_bytes};
 ghost use Rattle.std.specs.Io.KnownBytes.{Appends};
-ghost use Rattle.system.specs.Kept.{AreReadFrom, kept_in};
-ghost use Rattle.system.specs.Words.{AnswersWords};
+ghost use Rattle.system.specs.Kept.{kept_in};
+ghost use Rattle.system.specs.Words.{AnswersWords, AreReadFor};
 
 use serving::{Files, unread_words};
 use std::alloc::{AllocError, Global};
@@ -70,7 +70,7 @@ fn answer<
     ensures answer { AnswersWords (map string_bytes words.now) (kept_in result.files.items) result.status
         (Some []) (Some result.printed.bytes) }
     ensures passed { Appends (W.contents out) (W.contents result.out) result.printed.bytes }
-    ensures read { AreReadFrom (F.contents files.now) result.files.items }
+    ensures read { AreReadFor (map string_bytes words.now) (F.contents files.now) result.files.items }
 {
     match lent(alloc, words) {
         Ok(words) => serve_words(handle, alloc, words.as_slice(), files, out, err),

@@ -15,7 +15,7 @@ returns-clause-others g c =
     (still_known c.args.kept.now.items c.in_ok-file.file)
 
 pub returns-clause-read : goal.returns-clause-read
-returns-clause-read g c before =
+returns-clause-read g c = λ request source before.
     let contents = g.F.Files.contents c.args.files.now in
-    subst (AreReadFrom contents) (sym c.in_ok-push.ensures.items)
-    (one_more_read contents c.args.kept.now.items c.in_ok-file.file before c.in_ok-file.ensures.bytes)
+    subst (AreReadFrom request contents) (sym c.in_ok-push.ensures.items)
+    (one_more_read request contents c.args.kept.now.items c.in_ok-file.file before (c.in_ok-file.ensures.bytes request source))

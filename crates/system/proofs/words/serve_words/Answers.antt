@@ -1,4 +1,4 @@
-use Rattle.std.proofs.Common.{inl}
+use Rattle.std.proofs.Common.{inl, inr}
 use Rattle.system.proofs.words.serve_words.Goals as goal
 
 pub returns-in-Ok-clause-answer : goal.returns-in-Ok-clause-answer
@@ -6,3 +6,9 @@ returns-in-Ok-clause-answer g c = inl (c.in-Ok.asked, c.in-Ok.ensures.ok, c.serv
 
 pub returns-in-Err-clause-answer : goal.returns-in-Err-clause-answer
 returns-in-Err-clause-answer g c = c.tell_fault.ensures.answer _ c.in-Err.ensures.err
+
+pub returns-in-Ok-clause-read : goal.returns-in-Ok-clause-read
+returns-in-Ok-clause-read g c = inl (c.in-Ok.asked, c.in-Ok.ensures.ok, c.serve_request.ensures.read)
+
+pub returns-in-Err-clause-read : goal.returns-in-Err-clause-read
+returns-in-Err-clause-read g c = inr c.tell_fault.ensures.files
