@@ -1,0 +1,2 @@
+-- the questions of a source, and the answers that they expect
+pub mod Questions
