@@ -2,12 +2,14 @@
 _txc() {
     local word=${COMP_WORDS[COMP_CWORD]} words=
     case ${COMP_WORDS[COMP_CWORD - 1]} in
-        --format) words='short json' ;;
+        --format)
+            words='short json'
+            [[ ${COMP_WORDS[1]} == test ]] && words='github json' ;;
         --expect | --order-file | --refines | --report | --schedule) ;;
         --always | --budget | --final | --from | --limit | --memory | --order | --property | --seed | --steps | --threads | --ticks) return ;;
         *)
             if ((COMP_CWORD == 1)); then
-                words='check listing run replay source trace outcomes certify explain --help --version'
+                words='check listing run replay source trace outcomes certify test explain --help --version'
             elif [[ $word == -* ]]; then
                 case ${COMP_WORDS[1]} in
                     check) words='--verbose --format --warn --all --help' ;;
@@ -18,6 +20,7 @@ _txc() {
                     trace) words='--verbose --format --threads --order --property --help' ;;
                     outcomes) words='--verbose --format --threads --steps --limit --memory --refines --expect --always --final --keep-going --help' ;;
                     certify) words='--verbose --format --threads --order-file --report --ticks --help' ;;
+                    test) words='--format --list --help' ;;
                     explain) words='--help' ;;
                 esac
             elif [[ ${COMP_WORDS[1]} == explain ]] && ((COMP_CWORD == 2)); then

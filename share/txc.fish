@@ -76,6 +76,11 @@ complete -c txc -n '__fish_seen_subcommand_from certify' -l order-file -r -F -d 
 complete -c txc -n '__fish_seen_subcommand_from certify' -l report -r -F -d 'File with the report to check'
 complete -c txc -n '__fish_seen_subcommand_from certify' -l ticks -x -d 'Limit on the ticks of each thread (statements, loop iterations, calls), 0 to 4294967295 [default: no limit]'
 complete -c txc -n '__fish_seen_subcommand_from certify' -l help -d 'Print help'
+complete -c txc -n __fish_use_subcommand -a test -d 'Test programs: run txc outcomes with the options of each line `// txc: OPTIONS` in them'
+complete -c txc -n '__fish_seen_subcommand_from test' -F
+complete -c txc -n '__fish_seen_subcommand_from test' -l format -x -a 'github json' -d 'Report each question in this form: github is an annotation if it does not pass; json is an object'
+complete -c txc -n '__fish_seen_subcommand_from test' -l list -d 'Print a command for each question, which succeeds if the question passes, and run none'
+complete -c txc -n '__fish_seen_subcommand_from test' -l help -d 'Print help'
 complete -c txc -n __fish_use_subcommand -a explain -d 'Explain a fault (an error that txc reports) or how a thread ended, with an example'
 complete -c txc -n '__fish_seen_subcommand_from explain' -a 'trap budget spent waits running stop'
 complete -c txc -n '__fish_seen_subcommand_from explain' -l help -d 'Print help'

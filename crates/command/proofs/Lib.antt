@@ -14,3 +14,5 @@ mod Ranges
 mod Tasks
 -- what words define
 mod Defining
+-- files that are tested
+mod Testing

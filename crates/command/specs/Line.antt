@@ -7,6 +7,10 @@ use Rattle.clap.specs.declared.builder.ArgAction.TheVariants.{Append, Set, SetTr
 abbrev pub file_rule : Rule
 file_rule = record (new_rule (codes "FILE")) { required = true; action = Some Set }
 
+-- files with programs
+abbrev pub files_rule : Rule
+files_rule = record (new_rule (codes "FILE")) { required = true; action = Some Append }
+
 -- a flag of this name
 abbrev pub flag_rule : Text → Rule
 flag_rule name = record (new_rule name) { long = Some name; action = Some SetTrue }
@@ -94,6 +98,11 @@ certify_app =
     let order = with_rule threads (wanted_rule (codes "order-file")) in
     with_rule (with_rule order (wanted_rule (codes "report"))) (text_rule (codes "ticks"))
 
+abbrev pub test_app : App
+test_app =
+    let files = with_rule (new_app (codes "test")) files_rule in
+    with_rule (with_rule files (text_rule (codes "format"))) (flag_rule (codes "list"))
+
 abbrev pub explain_app : App
 explain_app = with_rule (with_rule (new_app (codes "explain")) fault_rule) trap_rule
 
@@ -109,4 +118,4 @@ program_app =
     let runs = with_subcommand (with_subcommand lists run_app.top) replay_app.top in
     let of_source = with_subcommand (with_subcommand runs source_app.top) trace_app.top in
     let compares = with_subcommand (with_subcommand of_source outcomes_app.top) certify_app.top in
-    with_subcommand compares explain_app.top
+    with_subcommand (with_subcommand compares test_app.top) explain_app.top

@@ -13,10 +13,11 @@ mod range;
 mod read;
 mod request;
 mod task;
+mod tests;
 
 pub use listed::listed_order;
-pub use read::command;
+pub use read::{command, job};
 pub use request::{
-    Against, Asked, CheckOptions, Claim, Comparison, Format, Questions, Request, Steps, Task,
-    ThreadRange, UsageFault,
+    Against, Asked, CheckOptions, Claim, Comparison, Format, Job, Questions, Request, Steps, Task,
+    TestFormat, Tests, ThreadRange, UsageFault,
 };

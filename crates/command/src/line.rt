@@ -6,7 +6,7 @@ ghost use Rattle.command.specs.inner.Made.{IsMade};
 ghost use Rattle.command.specs.Line.{file_rule, flag_rule, fault_rule, text_rule, wanted_rule, order_rule, file_app};
 ghost use Rattle.command.specs.Line.{check_app, listing_app, run_app, replay_steps_app, replay_app, source_app};
 ghost use Rattle.command.specs.Line.{outcome_states_app, outcomes_app, certify_app, explain_app, commandless_app};
-ghost use Rattle.command.specs.Line.{define_rule, program_app, trace_app, trap_rule};
+ghost use Rattle.command.specs.Line.{define_rule, files_rule, program_app, test_app, trace_app, trap_rule};
 
 use clap::{Arg, ArgAction, Command};
 use std::alloc::{AllocError, Global};
@@ -485,6 +485,43 @@ fn certify<'a>(alloc: Global) -> Result<Command<'a>, AllocError>
     with(command, ticks)
 }
 
+/// The files that are tested.
+fn files<'a>(alloc: Global) -> Arg<'a>
+    ensures rule { rule_of result ≡ files_rule }
+    ensures global { result.global ≡ false }
+{
+    Arg::new(alloc, "FILE")
+        .required(true)
+        .action(ArgAction::Append)
+        .help("C programs whose lines `// txc: OPTIONS` are tested")
+}
+
+/// The command that tests files.
+fn test<'a>(alloc: Global) -> Result<Command<'a>, AllocError>
+    ensures { IfOk result (IsMade test_app) }
+{
+    let command = command_of(
+        alloc,
+        "test",
+        "Test programs: run txc outcomes with the options of each line `// txc: OPTIONS` in them",
+        "Example:\n  txc test lock.c queue.c",
+    );
+    let command = with(Ok(command), files(alloc));
+    let format = text(
+        alloc,
+        "format",
+        "HOW",
+        "Report each question in this form: github is an annotation if it does not pass; json is an object",
+    );
+    let command = with(command, format);
+    let list = flag(
+        alloc,
+        "list",
+        "Print a command for each question, which succeeds if the question passes, and run none",
+    );
+    with(command, list)
+}
+
 /// The number of a fault, or the word of a thread's end.
 fn fault<'a>(alloc: Global) -> Arg<'a>
     ensures rule { rule_of result ≡ fault_rule }
@@ -582,5 +619,6 @@ pub fn program<'a>(alloc: Global) -> Result<Command<'a>, AllocError>
     let program = with_command(program, trace(alloc));
     let program = with_command(program, outcomes(alloc));
     let program = with_command(program, certify(alloc));
+    let program = with_command(program, test(alloc));
     with_command(program, explain(alloc))
 }

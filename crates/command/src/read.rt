@@ -1,11 +1,13 @@
 //! From words to a request.
 
-ghost use Rattle.std.specs.Prelude.{◌≡◌, IfOk, IfErr, IsSomeAnd, codes, map};
+ghost use Rattle.std.specs.Prelude.{◌≡◌, IfOk, IfErr, IsSomeAnd, codes, false, map, true};
 ghost use Rattle.clap.specs.Words.{first_of, found_of, one_of, rows_of, subcommand_rows_of};
 ghost use Rattle.command.specs.declared.request.Format.{Format};
 ghost use Rattle.command.specs.declared.request.Asked.{Asked};
 ghost use Rattle.command.specs.Asked.{Requests, IsCommanded, IsFormat, IsGiven, IsNoNumber, IsRequest, Refuses};
-ghost use Rattle.command.specs.inner.Refusals.{AreNoRequest, AskNoMore, IsOwn, HasGiven, SaysError};
+ghost use Rattle.command.specs.Tests.{IsJob, RefusesJob, WantJob};
+ghost use Rattle.command.specs.declared.request.Job.{Job};
+ghost use Rattle.command.specs.inner.Refusals.{AreNoRequest, AskNoMore, IsOwn, HasGiven, HasJob, SaysError};
 
 use crate::claim::claim;
 use crate::comparison::{compares, comparison};
@@ -13,8 +15,9 @@ use crate::definitions::definitions;
 use crate::given::{NoNumber, flag_given, read_number, text_given, text_wanted, wrong};
 use crate::line::program;
 use crate::questions::{asks, questions};
-use crate::request::{Asked, Format, Request, UsageFault};
+use crate::request::{Asked, Format, Job, Request, UsageFault};
 use crate::task::task;
+use crate::tests::tests;
 use clap::error::ErrorKind;
 use clap::{ArgMatches, Error};
 use std::alloc::Global;
@@ -32,6 +35,50 @@ pub fn command(alloc: Global, words: &[&str]) -> Result<Asked, UsageFault>
         Ok(matches) => asked(alloc, &matches),
         Err(error) => Err(refusal(alloc, &error)),
     }
+}
+
+/// Reads the words of a command line, as `command` does, and of `txc test` too.
+pub fn job(alloc: Global, words: &[&str]) -> Result<Job, UsageFault>
+    ensures ok { IfOk result (WantJob (map (λ w. w.now) words.now)) }
+    ensures err { IfErr result (RefusesJob (map (λ w. w.now) words.now)) }
+{
+    let program = program(alloc)?;
+    match program.try_get_matches_from(words) {
+        Ok(matches) => job_asked(alloc, &matches),
+        Err(error) => Err(refusal(alloc, &error)),
+    }
+}
+
+/// What words want done that the command line has.
+fn job_asked(alloc: Global, matches: &ArgMatches<'_>) -> Result<Job, UsageFault>
+    ensures ok { IfOk result (HasJob (subcommand_rows_of matches.now)) }
+    ensures err { IfErr result (IsOwn ((j : Job) → HasJob (subcommand_rows_of matches.now) j → ⊥)) }
+{
+    match matches.subcommand() {
+        Some((name, given)) => job_of(alloc, name, given),
+        None => Err(wrong(alloc, "a command is wanted")),
+    }
+}
+
+/// Whether this is the command that tests files.
+fn is_test(name: &str) -> bool
+    ensures yes { result ≡ true → name.now ≡ codes "test" }
+    ensures no { result ≡ false → name.now ≡ codes "test" → ⊥ }
+{
+    name == "test"
+}
+
+/// What a command wants done, with what is given for its arguments.
+fn job_of(alloc: Global, name: &str, given: &ArgMatches<'_>) -> Result<Job, UsageFault>
+    ensures ok { IfOk result (IsJob name.now (rows_of (found_of given.now))) }
+    ensures err { IfErr result (IsOwn ((j : Job) → IsJob name.now (rows_of (found_of given.now)) j → ⊥)) }
+{
+    if is_test(name) {
+        let wanted = tests(alloc, given)?;
+        return Ok(Job::Test(wanted));
+    }
+    let asked = asked_of(alloc, name, given)?;
+    Ok(Job::Serve(asked))
 }
 
 /// What is told of words that the command line has not got, or that ask for help.

@@ -13,6 +13,35 @@ pub struct Asked {
     pub definitions: Vec<Definition>,
 }
 
+/// What words want done.
+#[derive(Debug, Drop)]
+pub enum Job {
+    /// A request is served.
+    Serve(Asked),
+    /// Files are tested.
+    Test(Tests),
+}
+
+/// Files whose questions are put to `txc outcomes`.
+#[derive(Debug, Drop)]
+pub struct Tests {
+    pub files: Vec<String>,
+    pub format: TestFormat,
+    /// Whether the commands are listed, and none is served.
+    pub lists: bool,
+}
+
+/// How the answer to a question is reported.
+#[derive(Clone, Copy, PartialEq, Eq, Debug)]
+pub enum TestFormat {
+    /// In a line with the place of the question.
+    Plain,
+    /// As an annotation of GitHub, if it is not the expected answer.
+    Github,
+    /// As a JSON object.
+    Json,
+}
+
 /// A request.
 #[derive(Debug, Drop)]
 pub enum Request {

@@ -34,6 +34,8 @@ mod refusals;
 #[cfg(test)]
 mod served;
 #[cfg(test)]
+mod tested;
+#[cfg(test)]
 mod timed;
 #[cfg(test)]
 mod traced;

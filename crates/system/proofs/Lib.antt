@@ -6,3 +6,5 @@ pub mod Telling
 pub mod Unread
 -- a step of walks by hand
 mod Walks
+-- questions that pass
+pub mod Testing

@@ -1,2 +1,4 @@
 -- what was recorded
 pub mod Recorded
+-- a file that was opened
+pub mod Opened

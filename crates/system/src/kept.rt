@@ -21,7 +21,7 @@ pub struct KeptFile {
 }
 
 /// The bytes of the file of a name, if it is kept. Of two with one name the first is taken.
-fn bytes_of<'k>(files: &'k [KeptFile], name: &str) -> Option<&'k [u8]>
+pub(crate) fn bytes_of<'k>(files: &'k [KeptFile], name: &str) -> Option<&'k [u8]>
     ensures { option_map (λ s. s.now) result ≡ kept_in files.now name.now }
 {
     'files: for file in files {
@@ -261,4 +261,22 @@ pub(crate) fn keep_files<F: Files, E: Write>(
         Request::Explain { .. } | Request::ExplainEnd { .. } => {}
     }
     Ok(kept)
+}
+
+/// Reads sources. If one can't be read, that is told, and the error is then the exit status.
+pub(crate) fn keep_sources<F: Files, E: Write>(
+    alloc: Global,
+    names: &[String],
+    files: &F,
+    err: &mut E,
+) -> Result<Vec<KeptFile>, u8>
+    ensures read { IfOk result (λ kept. AreReadFrom (F.contents files.now) kept.items) }
+    ensures status { IfErr result (λ s. (s ≡ 2) ⊎ (s ≡ 4)) }
+{
+    let mut sources = Vec::new(alloc);
+    'names: for name in names {
+        let source = NamedFile::source(name.as_str(), false);
+        keep(alloc, &source, files, &mut sources, err)?;
+    }
+    Ok(sources)
 }

@@ -3,8 +3,11 @@
 #![tactic(auto)]
 
 mod kept;
+mod question;
 mod recorder;
 mod sent;
+mod source;
+mod tests;
 mod words;
 
 pub use kept::KeptFile;

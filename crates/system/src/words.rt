@@ -1,15 +1,19 @@
 //! Answers the words of a command line.
 
-ghost use Rattle.std.specs.Prelude.{◌≡◌, ◌≤◌, [], List, Some, map, ℕ};
+ghost use Rattle.std.specs.Prelude.{◌≡◌, ◌≤◌, [], List, None, Some, map, ℕ};
 ghost use Rattle.std.specs.Io.KnownBytes.{Appends};
-ghost use Rattle.command.specs.Asked.{Refuses};
+ghost use Rattle.command.specs.Tests.{RefusesJob, WantJob};
+ghost use Rattle.serving.specs.Files.{Contents};
 ghost use Rattle.system.specs.Kept.{AreKnown, AreReadFrom, kept_in};
-ghost use Rattle.system.specs.Words.{AnswersWords, AreReadFor, IsServed};
+ghost use Rattle.system.specs.Served.{IsServed};
+ghost use Rattle.system.specs.Tests.{AnswersTests};
+ghost use Rattle.system.specs.Words.{AnswersWords, AreReadFor};
 
-use crate::kept::{KeptFile, KeptFiles, keep_files};
+use crate::kept::{KeptFile, KeptFiles, keep_files, keep_sources};
 use crate::recorder::{Begun, Recorder};
 use crate::sent::Sent;
-use command::{Asked, UsageFault, command};
+use crate::tests::serve_tests;
+use command::{Asked, Job, Tests, UsageFault, job};
 use serving::{Files, serve_asked, tell_usage};
 use std::alloc::Global;
 use std::io::{IsTerminal, Write};
@@ -71,8 +75,8 @@ fn tell_recorded<B: Begun, W: Write + Drop, E: Write>(
 ) -> Served<W>
     requires begun { W.contents out ≡ B.begun }
     ensures status { result.status ≤ 5 }
-    ensures answer { (words : List (List ℕ)) → Refuses words fault.now
-        → AnswersWords words (kept_in []) result.status (Some []) (Some result.printed.bytes) }
+    ensures answer { (all : Contents) → (words : List (List ℕ)) → RefusesJob words fault.now
+        → AnswersWords all words (kept_in []) result.status (Some []) (Some result.printed.bytes) }
     ensures passed { Appends B.begun (W.contents result.out) result.printed.bytes }
 {
     let mut out: Recorder<W, B> = Recorder::new(out);
@@ -87,7 +91,7 @@ fn tell_recorded<B: Begun, W: Write + Drop, E: Write>(
 
 /// Reads the files that a request names, and does what it asks over them. If one can't be read, says so and prints
 /// nothing.
-fn serve_request<
+pub(crate) fn serve_request<
     H: Threads + Wait + Clock + Sync,
     F: Files,
     W: Write + Drop,
@@ -97,7 +101,7 @@ fn serve_request<
     ensures answer { IsServed asked.now (kept_in result.files.items) result.status (Some [])
         (Some result.printed.bytes) }
     ensures passed { Appends (W.contents out) (W.contents result.out) result.printed.bytes }
-    ensures read { AreReadFrom asked.now.request (F.contents files.now) result.files.items }
+    ensures read { AreReadFrom (Some asked.now.request) (F.contents files.now) result.files.items }
 {
     match keep_files(alloc, &asked.request, files, err) {
         Ok(files) => {
@@ -127,8 +131,8 @@ fn tell_fault<W: Write + Drop, E: Write>(
     err: &mut E,
 ) -> Answer<W>
     ensures status { result.status ≤ 5 }
-    ensures answer { (words : List (List ℕ)) → Refuses words fault.now
-        → AnswersWords words (kept_in result.files.items) result.status (Some []) (Some result.printed.bytes) }
+    ensures answer { (all : Contents) → (words : List (List ℕ)) → RefusesJob words fault.now
+        → AnswersWords all words (kept_in result.files.items) result.status (Some []) (Some result.printed.bytes) }
     ensures passed { Appends (W.contents out) (W.contents result.out) result.printed.bytes }
     ensures files { result.files.items ≡ [] }
 {
@@ -138,6 +142,92 @@ fn tell_fault<W: Write + Drop, E: Write>(
         printed: served.printed,
         files: Vec::new(alloc),
         out: served.out,
+    }
+}
+
+/// Tests files that are kept.
+fn test_kept<B: Begun, H: Threads + Wait + Clock + Sync, F: Files, W: Write + Drop, E: Write>(
+    rt: &H,
+    alloc: Global,
+    tests: &Tests,
+    kept: &[KeptFile],
+    files: &F,
+    out: W,
+    err: &mut E,
+) -> Served<W>
+    requires begun { W.contents out ≡ B.begun }
+    ensures status { result.status ≤ 5 }
+    ensures answer { AnswersTests (F.contents files.now) tests.now (kept_in kept.now) result.status }
+    ensures passed { Appends B.begun (W.contents result.out) result.printed.bytes }
+{
+    let mut out: Recorder<W, B> = Recorder::new(out);
+    let status = serve_tests(rt, alloc, tests, kept, files, &mut out, err);
+    let (printed, out) = out.into_parts();
+    Served {
+        status,
+        printed,
+        out,
+    }
+}
+
+/// Reads files, and tests them. If one can't be read, says so and prints nothing.
+fn test<H: Threads + Wait + Clock + Sync, F: Files, W: Write + Drop, E: Write>(
+    rt: &H,
+    alloc: Global,
+    tests: &Tests,
+    files: &F,
+    out: W,
+    err: &mut E,
+) -> Answer<W>
+    ensures status { result.status ≤ 5 }
+    ensures answer { AnswersTests (F.contents files.now) tests.now (kept_in result.files.items) result.status }
+    ensures passed { Appends (W.contents out) (W.contents result.out) result.printed.bytes }
+    ensures read { AreReadFrom None (F.contents files.now) result.files.items }
+{
+    match keep_sources(alloc, tests.files.as_slice(), files, err) {
+        Ok(kept) => {
+            let served = test_kept::<Brand, H, F, W, E>(
+                rt,
+                alloc,
+                tests,
+                kept.as_slice(),
+                files,
+                out,
+                err,
+            );
+            Answer {
+                status: served.status,
+                printed: served.printed,
+                files: kept,
+                out: served.out,
+            }
+        }
+        Err(status) => Answer {
+            status,
+            printed: Sent::new(),
+            files: Vec::new(alloc),
+            out,
+        },
+    }
+}
+
+/// Does what words want done.
+fn serve_job<
+    H: Threads + Wait + Clock + Sync,
+    F: Files,
+    W: Write + Drop,
+    E: Write + IsTerminal + Send,
+>(rt: &H, alloc: Global, job: &Job, files: &F, out: W, err: &mut E) -> Answer<W>
+    ensures status { result.status ≤ 5 }
+    ensures answer { (words : List (List ℕ)) → WantJob words job.now
+        → AnswersWords (F.contents files.now) words (kept_in result.files.items) result.status (Some [])
+        (Some result.printed.bytes) }
+    ensures passed { Appends (W.contents out) (W.contents result.out) result.printed.bytes }
+    ensures read { AreReadFrom (F.contents files.now) result.files.items }
+{
+    match job {
+        Job::Serve(asked) => serve_request(rt, alloc, asked, files, out, err),
+        Job::Test(tests) => test(rt, alloc, tests, files, out, err),
     }
 }
 
@@ -151,13 +241,13 @@ pub fn serve_words<
     E: Write + IsTerminal + Send,
 >(rt: &H, alloc: Global, words: &[&str], files: &F, out: W, err: &mut E) -> Answer<W>
     ensures status { result.status ≤ 5 }
-    ensures answer { AnswersWords (map (λ w. w.now) words.now) (kept_in result.files.items) result.status
-        (Some []) (Some result.printed.bytes) }
+    ensures answer { AnswersWords (F.contents files.now) (map (λ w. w.now) words.now) (kept_in result.files.items)
+        result.status (Some []) (Some result.printed.bytes) }
     ensures passed { Appends (W.contents out) (W.contents result.out) result.printed.bytes }
     ensures read { AreReadFor (map (λ w. w.now) words.now) (F.contents files.now) result.files.items }
 {
-    match command(alloc, words) {
-        Ok(asked) => serve_request(rt, alloc, &asked, files, out, err),
+    match job(alloc, words) {
+        Ok(job) => serve_job(rt, alloc, &job, files, out, err),
         Err(fault) => tell_fault(alloc, &fault, out, err),
     }
 }

@@ -67,8 +67,8 @@ fn answer<
     E: Write + IsTerminal + Send,
 >(handle: &H, alloc: Global, words: &[String], files: &F, out: W, err: &mut E) -> Answer<W>
     ensures status { result.status ≤ 5 }
-    ensures answer { AnswersWords (map string_bytes words.now) (kept_in result.files.items) result.status
-        (Some []) (Some result.printed.bytes) }
+    ensures answer { AnswersWords (F.contents files.now) (map string_bytes words.now) (kept_in result.files.items)
+        result.status (Some []) (Some result.printed.bytes) }
     ensures passed { Appends (W.contents out) (W.contents result.out) result.printed.bytes }
     ensures read { AreReadFor (map string_bytes words.now) (F.contents files.now) result.files.items }
 {

@@ -10,4 +10,5 @@ returns c =
     let six = c.with_command-program-6.ensures _ _ five c.trace.ensures in
     let seven = c.with_command-program-7.ensures _ _ six c.outcomes.ensures in
     let eight = c.with_command-program-8.ensures _ _ seven c.certify.ensures in
-    c.with_command.ensures _ _ eight c.explain.ensures
+    let nine = c.with_command-program-9.ensures _ _ eight c.test.ensures in
+    c.with_command.ensures _ _ nine c.explain.ensures

@@ -1,0 +1,113 @@
+//! What is kept of the output of `txc outcomes`.
+
+use std::alloc::{AllocError, Global};
+use std::io;
+use std::io::{IsTerminal, Write};
+
+/// The most notes that are kept, the last ones.
+const MOST_NOTES: usize = 16;
+
+/// The most bytes that are kept of a line.
+const LONGEST: usize = 4096;
+
+/// Keeps the lines of an output that say what was found, without the reports behind them.
+#[derive(Drop)]
+pub struct Notes {
+    alloc: Global,
+    /// The line that is being written.
+    line: Vec<u8>,
+    notes: Vec<String>,
+    has_stuck: bool,
+}
+
+/// What a line says was found, if it does: what follows `== ` or `txc: `.
+fn note_of(line: &[u8]) -> Option<&[u8]> {
+    let Some(found) = line.strip_prefix(b"== ".as_slice()) else {
+        return line.strip_prefix(b"txc: ".as_slice());
+    };
+    if found.starts_with(b"thread ")
+        || found.starts_with(b"memory")
+        || found.starts_with(b"outcome ")
+    {
+        None
+    } else {
+        Some(found)
+    }
+}
+
+impl Notes {
+    /// Nothing was written yet.
+    pub fn new(alloc: Global) -> Notes {
+        Notes {
+            alloc,
+            line: Vec::new(alloc),
+            notes: Vec::new(alloc),
+            has_stuck: false,
+        }
+    }
+
+    /// Whether a stuck order was found.
+    pub fn has_stuck(&self) -> bool {
+        self.has_stuck
+    }
+
+    /// What was found.
+    pub fn notes(&self) -> &[String] {
+        self.notes.as_slice()
+    }
+
+    /// Keeps a note, if there is memory for it.
+    fn keep(&mut self, note: String) {
+        if self.notes.len() >= MOST_NOTES {
+            let _ = self.notes.remove(0);
+        }
+        let _ = self.notes.push(note);
+    }
+
+    /// The note of the line that was written.
+    fn note(&self) -> Result<Option<String>, AllocError> {
+        match note_of(self.line.as_slice()) {
+            Some(note) => Ok(Some(String::from_utf8_lossy(self.alloc, note)?)),
+            None => Ok(None),
+        }
+    }
+
+    /// A line ends.
+    fn end_line(&mut self) {
+        if self.line.as_slice().starts_with(b"== stuck ") {
+            self.has_stuck = true;
+        }
+        if let Ok(Some(note)) = self.note() {
+            self.keep(note);
+        }
+        self.line.clear();
+    }
+
+    /// Takes a byte.
+    fn take(&mut self, byte: u8) {
+        if byte == b'\n' {
+            self.end_line();
+        } else if self.line.len() < LONGEST {
+            let _ = self.line.push(byte);
+        }
+    }
+}
+
+impl Write for Notes {
+    fn write(&mut self, buf: &[u8]) -> io::Result<usize> {
+        'bytes: for byte in buf {
+            self.take(*byte);
+        }
+        Ok(buf.len())
+    }
+
+    fn flush(&mut self) -> io::Result<()> {
+        Ok(())
+    }
+}
+
+impl IsTerminal for Notes {
+    fn is_terminal(&self) -> bool {
+        false
+    }
+}
