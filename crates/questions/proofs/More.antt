@@ -1,9 +1,9 @@
 -- One line more, and words that are cut.
-use Rattle.std.proofs.Common.{◌≡◌, ◌∙◌, ◌+◌, ◌-◌, ℕ, suc, List, [], ◌∷◌, ◌++◌, Bor, length, map, take, refl, sym, ap, subst, arith}
-use Rattle.std.proofs.lemmas.List.{append-nil, append_assoc, length-map, take-map}
+use Rattle.std.proofs.Common.{◌≡◌, ◌∙◌, ◌⊎◌, inl, inr, ◌+◌, ◌-◌, ◌<◌, ℕ, suc, List, [], ◌∷◌, ◌++◌, Bor, get_or, length, map, take, refl, sym, ap, subst, arith}
+use Rattle.std.proofs.lemmas.List.{append-nil, append_assoc, length-map, length-take-le, map_more, take-map}
 use Rattle.questions.specs.Questions.{Text, asking, expected_by, expected_of, one_of_line, questions_from, without_expected, without_last, words_of}
 use Rattle.questions.specs.declared.expected.Expected.{Expected}
-use Rattle.questions.specs.declared.expected.Expected.TheVariants.{Holds}
+use Rattle.questions.specs.declared.expected.Expected.TheVariants.{Fails, Traps, Stuck}
 
 -- the questions of lines, and of one more
 pub one_line_more : (n : ℕ) (ls : List Text) (l : Text) → questions_from n (ls ++ l ∷ []) ≡ questions_from n ls ++ one_of_line (n + length ls) (asking (words_of l))
@@ -29,3 +29,18 @@ cut_words ws e is cut =
     ∙ ap (λ k. take (k - 1) (map (λ w. w.now) ws)) (sym (length-map ws (λ w. w.now)))
     ∙ sym cut
     ∙ ap (λ x. without_last x (map (λ w. w.now) ws)) is
+
+pub cut_by : (ws : List (Bor Text)) (e : Expected) → e ≡ expected_of (map (λ w. w.now) ws) → (e ≡ Fails) ⊎ ((e ≡ Traps) ⊎ (e ≡ Stuck)) → map (λ w. w.now) (take (length ws - 1) ws) ≡ without_expected (map (λ w. w.now) ws)
+cut_by ws e is (inl other) = cut_words ws Fails (sym other ∙ is) refl
+cut_by ws e is (inr (inl other)) = cut_words ws Traps (sym other ∙ is) refl
+cut_by ws e is (inr (inr other)) = cut_words ws Stuck (sym other ∙ is) refl
+
+-- the questions of lines so far, and of one more
+pub next_line : (k : ℕ) (items : List (Bor Text)) (d : Bor Text) (number : ℕ) (old new found : List (ℕ × List Text)) → k < length items → number ≡ k → old ≡ questions_from 1 (map (λ p. p.now) (take k items)) → found ≡ one_of_line (number + 1) (asking (words_of (get_or items k d).now)) → new ≡ old ++ found → new ≡ questions_from 1 (map (λ p. p.now) (take (k + 1) items))
+next_line k items d number old new found low is before one added =
+    let lines = map (λ p. p.now) (take k items) in
+    let line = (get_or items k d).now in
+    let count : length lines ≡ k = length-map (take k items) (λ p. p.now) ∙ length-take-le k items (omega (arith, low)) in
+    let place : number + 1 ≡ 1 + length lines = omega (arith, is, count) in
+    added ∙ ap (λ qs. qs ++ found) before ∙ ap (λ qs. questions_from 1 lines ++ qs) (one ∙ ap (λ n. one_of_line n (asking (words_of line))) place)
+    ∙ sym (one_line_more 1 lines line) ∙ ap (questions_from 1) (sym (map_more (λ p. p.now) items k d low))

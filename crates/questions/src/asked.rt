@@ -1,8 +1,9 @@
 //! Lines that ask something of the program that they stand in.
 
-ghost use Rattle.std.specs.Prelude.{◌≡◌, ◌&&◌, IfOk, MatchOption, None, Some, bytes_eq, codes, map};
+ghost use Rattle.std.specs.Prelude.{◌≡◌, ◌++◌, ◌&&◌, IfOk, MatchOption, None, OnOk, Some, bytes_eq, codes, map};
 ghost use Rattle.std.specs.List.{slice_split};
-ghost use Rattle.questions.specs.Questions.{asking, is_blank, lines_of, questions_of, words_of};
+ghost use Rattle.questions.specs.Questions.{asking, is_blank, lines_of, one_of_line, questions_of, words_of};
+ghost use Rattle.questions.specs.inner.Found.{pair_of, pairs_of};
 
 use std::alloc::{AllocError, Global};
 
@@ -80,6 +81,35 @@ fn column(line: &[u8]) -> usize {
     line.iter().take_while(|byte| is_blank(**byte)).count() + 1
 }
 
+/// The question that a line is, if it is one.
+fn question_of<'t>(
+    alloc: Global,
+    number: usize,
+    line: &'t [u8],
+) -> Result<Option<Question<'t>>, AllocError>
+    ensures { IfOk result (λ o. pairs_of o ≡ one_of_line number (asking (words_of line.now))) }
+{
+    let words = words(alloc, line)?;
+    match asked(alloc, words.as_slice())? {
+        Some(words) => Ok(Some(Question {
+            line: number,
+            column: column(line),
+            words,
+        })),
+        None => Ok(None),
+    }
+}
+
+/// Adds a question, if there is one.
+fn add<'t>(questions: &mut Vec<Question<'t>>, found: Option<Question<'t>>) -> Result<(), AllocError>
+    ensures { OnOk result (map pair_of questions.new.items ≡ map pair_of questions.old.items ++ pairs_of found) }
+{
+    if let Some(question) = found {
+        questions.push(question)?;
+    }
+    Ok(())
+}
+
 /// The questions of a source, in the order of its lines.
 pub fn questions<'t>(alloc: Global, text: &'t [u8]) -> Result<Vec<Question<'t>>, AllocError>
     ensures { IfOk result (λ v. map (λ q. (q.line, map (λ w. w.now) q.words.items)) v.items ≡ questions_of text.now) }
@@ -89,14 +119,8 @@ pub fn questions<'t>(alloc: Global, text: &'t [u8]) -> Result<Vec<Question<'t>>,
     let mut number = 0;
     'lines: for line in lines.as_slice() {
         number += 1;
-        let words = words(alloc, *line)?;
-        if let Some(words) = asked(alloc, words.as_slice())? {
-            questions.push(Question {
-                line: number,
-                column: column(*line),
-                words,
-            })?;
-        }
+        let found = question_of(alloc, number, *line)?;
+        add(&mut questions, found)?;
     }
     Ok(questions)
 }

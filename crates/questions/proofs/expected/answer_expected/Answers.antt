@@ -1,0 +1,10 @@
+use Rattle.std.proofs.Common.{◌≡◌, ◌∙◌, [], map, sym, subst}
+use Rattle.std.proofs.lemmas.List.{map_more}
+use Rattle.questions.specs.Questions.{expected_of}
+use Rattle.questions.proofs.More.{last_says}
+use Rattle.questions.proofs.expected.answer_expected.Goals as goal
+
+pub words-preserved : goal.words-preserved
+words-preserved c =
+    subst (λ ws. c.expected_by-expected.result ≡ expected_of ws) (sym (map_more (λ w. w.now) c.args.words.now c.words.word-index (record { ref_ptr = (0, 0); now = [] }) c.words-test.true))
+    (c.expected_by-expected.ensures ∙ last_says _ _)
