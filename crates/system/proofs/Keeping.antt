@@ -27,6 +27,6 @@ last_known [] file = ap (λ b. is_some (cond b (Some file.bytes.items) None)) ((
 last_known (f ∷ files) file = known_either (bytes_eq (string_bytes f.name) (string_bytes file.name)) f.bytes.items (kept_in (files ++ file ∷ []) (string_bytes file.name)) (last_known files file)
 
 -- one more was read so
-pub one_more_read : (request : Request) (contents : Contents) (files : List KeptFile) (file : KeptFile) → AreReadFrom request contents files → IsReadFrom request contents file → AreReadFrom request contents (files ++ file ∷ [])
+pub one_more_read : (request : Option Request) (contents : Contents) (files : List KeptFile) (file : KeptFile) → AreReadFrom request contents files → IsReadFrom request contents file → AreReadFrom request contents (files ++ file ∷ [])
 one_more_read request contents [] file before this = (this, tt)
 one_more_read request contents (f ∷ files) file before this = (before.0, one_more_read request contents files file before.1 this)

@@ -1,5 +1,5 @@
 -- What is answered to words that are told why they are no request.
-use Rattle.std.proofs.Common.{◌≡◌, ◌⊎◌, inl, inr, ℕ, List, Option, refl, subst}
+use Rattle.std.proofs.Common.{◌≡◌, ◌⊎◌, inl, inr, ℕ, List, Option, None, Some, refl, subst}
 use Rattle.command.specs.Tests.{RefusesJob, WantJob}
 use Rattle.command.specs.declared.request.Asked.{Asked}
 use Rattle.command.specs.declared.request.Job.{Job}
@@ -9,9 +9,11 @@ use Rattle.command.specs.declared.request.UsageFault.{UsageFault}
 use Rattle.command.specs.declared.request.UsageFault.TheVariants.{Help, OutOfMemory, Wrong}
 use Rattle.serving.specs.Files.{Contents}
 use Rattle.serving.specs.Usage.{IsHelp, IsWrong}
+use Rattle.system.specs.Kept.{AreReadFrom}
 use Rattle.system.specs.Served.{IsServed}
 use Rattle.system.specs.Tests.{AnswersTests}
-use Rattle.system.specs.Words.{AnswersWords}
+use Rattle.system.specs.Words.{AnswersWords, AreReadFor}
+use Rattle.system.specs.declared.kept.KeptFile.{KeptFile}
 
 untouched_by : {IsNone : Type 0} (old new : Option (List ℕ)) → (IsNone → ⊥) → IsNone ⊎ (new ≡ old) → new ≡ old
 untouched_by old new never (inl is) = absurd (never is)
@@ -28,3 +30,10 @@ job_served all words job asked read status old new is want served = inl (asked, 
 
 pub job_tested : (all : Contents) (words : List (List ℕ)) (job : Job) (tests : Tests) (read : Contents) (status : ℕ) (old new : Option (List ℕ)) → job ≡ Test tests → WantJob words job → AnswersTests all tests read status → AnswersWords all words read status old new
 job_tested all words job tests read status old new is want tested = inr (inl (tests, subst (WantJob words) is want, tested))
+
+-- the files that were read for it
+pub read_to_serve : (words : List (List ℕ)) (job : Job) (asked : Asked) (contents : Contents) (files : List KeptFile) → job ≡ Serve asked → WantJob words job → AreReadFrom (Some asked.request) contents files → AreReadFor words contents files
+read_to_serve words job asked contents files is want read = inl (asked, subst (WantJob words) is want, read)
+
+pub read_to_test : (words : List (List ℕ)) (job : Job) (tests : Tests) (contents : Contents) (files : List KeptFile) → job ≡ Test tests → WantJob words job → AreReadFrom None contents files → AreReadFor words contents files
+read_to_test words job tests contents files is want read = inr (inl (tests, subst (WantJob words) is want, read))

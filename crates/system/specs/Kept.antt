@@ -1,5 +1,5 @@
 -- Files that were read, by their names.
-use Rattle.std.specs.Prelude.{◌≡◌, ◌⊎◌, ℕ, true, List, [], ◌∷◌, Some, None, IfSome, bytes_eq, if◌then◌else◌}
+use Rattle.std.specs.Prelude.{◌≡◌, ◌⊎◌, ℕ, true, List, [], ◌∷◌, Option, Some, None, IfSome, bytes_eq, if◌then◌else◌}
 use Rattle.std.specs.Prelude.{is_some, string_bytes}
 use Rattle.command.specs.declared.request.Request.{Request}
 use Rattle.command.specs.declared.request.Request.TheVariants.{Program, Certify, Compare, Ask, Explain, ExplainEnd}
@@ -14,14 +14,19 @@ kept_in [] name = None
 kept_in (file ∷ files) name =
     if bytes_eq (string_bytes file.name) name then Some file.bytes.items else kept_in files name
 
--- a file of a request was read to its end, or is a source and was read up to one byte past the most that it may have
-abbrev pub IsReadFrom : Request → Contents → KeptFile → Type 0
+-- a request reads this file as a source; without a request, files are tested, and all are sources
+abbrev pub IsReadAsSource : Option Request → (name : List ℕ) → Type 0
+IsReadAsSource (Some request) name = IsSource request name
+IsReadAsSource None name = Unit {0}
+
+-- a file was read to its end, or is a source and was read up to one byte past the most that it may have
+abbrev pub IsReadFrom : Option Request → Contents → KeptFile → Type 0
 IsReadFrom request contents file = IfSome (contents (string_bytes file.name))
     (λ bytes. (file.bytes.items ≡ bytes)
-    ⊎ IsSource request (string_bytes file.name) × (file.bytes.items ≡ read_of bytes))
+    ⊎ IsReadAsSource request (string_bytes file.name) × (file.bytes.items ≡ read_of bytes))
 
 -- each file was read so
-abbrev pub AreReadFrom : Request → Contents → List KeptFile → Type 0
+abbrev pub AreReadFrom : Option Request → Contents → List KeptFile → Type 0
 AreReadFrom request contents [] = Unit {0}
 AreReadFrom request contents (file ∷ files) = IsReadFrom request contents file × AreReadFrom request contents files
 

@@ -24,7 +24,7 @@ pub record IsRequestAnswered (contents : Contents) (file bytes : List ℕ) (word
   pub asked : Asked
   pub requested : Requests words asked
   pub read : List KeptFile
-  pub read_from : AreReadFrom (with_source file bytes contents) read
+  pub read_from : AreReadFrom (Some asked.request) (with_source file bytes contents) read
   pub printed : List ℕ
   pub served : IsServed asked (kept_in read) status (Some []) (Some printed)
 

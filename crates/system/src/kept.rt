@@ -1,10 +1,10 @@
 //! Files that were read, and are kept.
 
-ghost use Rattle.std.specs.Prelude.{◌≡◌, ◌⊎◌, IfErr, IfOk, IfSome, List, OnOk, false, option_map, string_bytes, true, ℕ};
+ghost use Rattle.std.specs.Prelude.{◌≡◌, ◌⊎◌, IfErr, IfOk, IfSome, List, None, OnOk, Option, Some, false, option_map, string_bytes, true, ℕ};
 ghost use Rattle.command.specs.declared.request.Request.{Request};
 ghost use Rattle.serving.specs.Compared.{name_of};
-ghost use Rattle.serving.specs.Numbers.{IsSource, other_of};
-ghost use Rattle.system.specs.Kept.{AreKnown, AreReadFrom, IsFileKnown, IsReadFrom, StayKnown, kept_in};
+ghost use Rattle.serving.specs.Numbers.{other_of};
+ghost use Rattle.system.specs.Kept.{AreKnown, AreReadFrom, IsFileKnown, IsReadAsSource, IsReadFrom, StayKnown, kept_in};
 
 use command::{Against, Format, Request};
 use serving::{Detail, Files, Teller, read_bytes, schedule_of};
@@ -109,7 +109,7 @@ impl<'n> NamedFile<'n> {
 /// Reads a file.
 fn read_file<F: Files>(alloc: Global, named: &NamedFile<'_>, files: &F) -> io::Result<KeptFile>
     ensures name { IfOk result (λ file. string_bytes file.name ≡ named.now.name.now) }
-    ensures bytes { (request : Request) → (named.now.is_source ≡ true → IsSource request named.now.name.now)
+    ensures bytes { (request : Option Request) → (named.now.is_source ≡ true → IsReadAsSource request named.now.name.now)
         → IfOk result (λ file. IsReadFrom request (F.contents files.now) file) }
 {
     let name = String::from_str(alloc, named.name)?;
@@ -131,7 +131,7 @@ fn read_into<F: Files>(
 ) -> io::Result<()>
     ensures known { OnOk result (IsFileKnown (kept_in kept.new.items) named.now.name.now) }
     ensures others { OnOk result (StayKnown (kept_in kept.old.items) (kept_in kept.new.items)) }
-    ensures read { (request : Request) → (named.now.is_source ≡ true → IsSource request named.now.name.now)
+    ensures read { (request : Option Request) → (named.now.is_source ≡ true → IsReadAsSource request named.now.name.now)
         → OnOk result (AreReadFrom request (F.contents files.now) kept.old.items
         → AreReadFrom request (F.contents files.now) kept.new.items) }
 {
@@ -150,7 +150,7 @@ fn keep<F: Files, E: Write>(
 ) -> Result<(), u8>
     ensures known { OnOk result (IsFileKnown (kept_in kept.new.items) named.now.name.now) }
     ensures others { OnOk result (StayKnown (kept_in kept.old.items) (kept_in kept.new.items)) }
-    ensures read { (request : Request) → (named.now.is_source ≡ true → IsSource request named.now.name.now)
+    ensures read { (request : Option Request) → (named.now.is_source ≡ true → IsReadAsSource request named.now.name.now)
         → OnOk result (AreReadFrom request (F.contents files.now) kept.old.items
         → AreReadFrom request (F.contents files.now) kept.new.items) }
     ensures status { IfErr result (λ s. (s ≡ 2) ⊎ (s ≡ 4)) }
@@ -172,7 +172,7 @@ pub(crate) fn keep_files<F: Files, E: Write>(
     err: &mut E,
 ) -> Result<Vec<KeptFile>, u8>
     ensures known { IfOk result (λ kept. AreKnown request.now (kept_in kept.items)) }
-    ensures read { IfOk result (λ kept. AreReadFrom request.now (F.contents files.now) kept.items) }
+    ensures read { IfOk result (λ kept. AreReadFrom (Some request.now) (F.contents files.now) kept.items) }
     ensures status { IfErr result (λ s. (s ≡ 2) ⊎ (s ≡ 4)) }
 {
     let mut kept = Vec::new(alloc);
@@ -270,7 +270,7 @@ pub(crate) fn keep_sources<F: Files, E: Write>(
     files: &F,
     err: &mut E,
 ) -> Result<Vec<KeptFile>, u8>
-    ensures read { IfOk result (λ kept. AreReadFrom (F.contents files.now) kept.items) }
+    ensures read { IfOk result (λ kept. AreReadFrom None (F.contents files.now) kept.items) }
     ensures status { IfErr result (λ s. (s ≡ 2) ⊎ (s ≡ 4)) }
 {
     let mut sources = Vec::new(alloc);

@@ -223,7 +223,8 @@ fn serve_job<
         → AnswersWords (F.contents files.now) words (kept_in result.files.items) result.status (Some [])
         (Some result.printed.bytes) }
     ensures passed { Appends (W.contents out) (W.contents result.out) result.printed.bytes }
-    ensures read { AreReadFrom (F.contents files.now) result.files.items }
+    ensures read { (words : List (List ℕ)) → WantJob words job.now
+        → AreReadFor words (F.contents files.now) result.files.items }
 {
     match job {
         Job::Serve(asked) => serve_request(rt, alloc, asked, files, out, err),
