@@ -12,10 +12,12 @@ use Rattle.command.specs.declared.request.Against.{Against}
 use Rattle.command.specs.declared.request.Against.TheVariants.{Refined, Expected}
 use Rattle.command.specs.declared.request.Claim.{Claim}
 use Rattle.command.specs.declared.request.Comparison.{Comparison}
+use Rattle.command.specs.declared.request.Coverage.{Coverage}
 use Rattle.command.specs.declared.request.Format.{Format}
 use Rattle.command.specs.declared.request.Format.TheVariants.{Plain, Short, Json}
 use Rattle.command.specs.declared.request.Request.{Request}
-use Rattle.command.specs.declared.request.Request.TheVariants.{Program, Certify, Compare, Ask, Explain, ExplainEnd}
+use Rattle.command.specs.declared.request.Request.TheVariants.{Program, Certify, Compare, Ask, Cover}
+use Rattle.command.specs.declared.request.Request.TheVariants.{Explain, ExplainEnd}
 use Rattle.command.specs.declared.request.Questions.{Questions}
 use Rattle.command.specs.declared.request.Task.{Task}
 use Rattle.command.specs.declared.request.Task.TheVariants.{Check, Listing, Run, Replay, Timeline, Picture}
@@ -216,6 +218,21 @@ pub record AreQuestions (given : List Row) (questions : Questions) : Type 0 wher
   pub last : option_map string_bytes questions.last ≡ first_of (codes "final") given
   pub keeps_going : IsTrue questions.keeps_going ↔ IsFlagged given (codes "keep-going")
 
+-- `any` is given in place of a number of threads
+pub record IsAnyNumber (given : List Row) : Type 0 where
+  pub said : first_of (codes "threads") given ≡ Some (codes "any")
+  pub no_number : IsSomeAnd (one_of (codes "threads") given) IsNoNumber
+
+-- the functions that must hold for every number of threads
+pub record IsCoverageAsked (given : List Row) (coverage : Coverage) : Type 0 where
+  pub any : IsAnyNumber given
+  pub uncompared : AreUncompared given
+  pub none_last : first_of (codes "final") given ≡ None
+  pub steps : IsNumberInRange given (codes "steps") 1000000 0 4294967295 coverage.steps
+  pub limit : IsNumberInRange given (codes "limit") 1000000 0 4294967295 coverage.limit
+  pub memory : IsNumberInRange given (codes "memory") 1024 0 4294967295 coverage.memory
+  pub always : first_of (codes "always") given ≡ Some (string_bytes coverage.always)
+
 -- a file of an order, and one of a report; at most one of these and the source is standard input
 pub record AreClaimFiles (given : List Row) (order report : Text) : Type 0 where
   pub order_named : first_of (codes "order-file") given ≡ Some order
@@ -278,6 +295,10 @@ IsRequest name given (Ask file verbose format questions) =
     (first_of (codes "FILE") given ≡ Some (string_bytes file))
     × (IsTrue verbose ↔ IsFlagged given (codes "verbose")) × IsFormat (first_of (codes "format") given) format
     × (name ≡ codes "outcomes") × AreUncompared given × (are_asked given ≡ true) × AreQuestions given questions
+IsRequest name given (Cover file verbose format coverage) =
+    (first_of (codes "FILE") given ≡ Some (string_bytes file))
+    × (IsTrue verbose ↔ IsFlagged given (codes "verbose")) × IsFormat (first_of (codes "format") given) format
+    × (name ≡ codes "outcomes") × IsCoverageAsked given coverage
 IsRequest name given (Explain number) =
     (name ≡ codes "explain") × IsGiven given (codes "NN") number × (one_of (codes "N") given ≡ None)
 IsRequest name given (ExplainEnd word number) = (name ≡ codes "explain")

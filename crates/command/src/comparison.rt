@@ -16,7 +16,7 @@ use clap::ArgMatches;
 use std::alloc::Global;
 
 /// Whether a text is given for an argument.
-fn has_text(given: &ArgMatches<'_>, id: &str) -> bool
+pub(crate) fn has_text(given: &ArgMatches<'_>, id: &str) -> bool
     ensures yes { result ≡ true → first_of id.now (rows_of (found_of given.now)) ≡ None → ⊥ }
     ensures no { result ≡ false → first_of id.now (rows_of (found_of given.now)) ≡ None }
 {

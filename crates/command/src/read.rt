@@ -11,6 +11,7 @@ ghost use Rattle.command.specs.inner.Refusals.{AreNoRequest, AskNoMore, IsOwn, H
 
 use crate::claim::claim;
 use crate::comparison::{compares, comparison};
+use crate::coverage::{coverage, covers};
 use crate::definitions::definitions;
 use crate::given::{NoNumber, flag_given, read_number, text_given, text_wanted, wrong};
 use crate::line::program;
@@ -190,6 +191,14 @@ fn request_of(alloc: Global, name: &str, given: &ArgMatches<'_>) -> Result<Reque
             verbose,
             format,
             claim: claim(alloc, given)?,
+        });
+    }
+    if covers(name, given) {
+        return Ok(Request::Cover {
+            file,
+            verbose,
+            format,
+            coverage: coverage(alloc, given)?,
         });
     }
     if compares(name, given) {

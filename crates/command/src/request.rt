@@ -77,6 +77,14 @@ pub enum Request {
         format: Format,
         questions: Questions,
     },
+    /// Checks whether functions of the program in a file hold for every number of threads.
+    Cover {
+        file: String,
+        /// Whether more of a fault is reported than its line.
+        verbose: bool,
+        format: Format,
+        coverage: Coverage,
+    },
     /// Explains the fault of a number.
     Explain {
         number: u32,
@@ -143,6 +151,18 @@ pub struct Questions {
     pub last: Option<String>,
     /// Whether the search continues once each function has failed.
     pub keeps_going: bool,
+}
+
+/// The functions that must hold in every state that any number of threads from 1 to 64 reaches, over at most so many
+/// states. In a turn a thread makes at most so many steps of its code, and a function takes at most so many ticks.
+#[derive(Debug, Drop)]
+pub struct Coverage {
+    pub steps: u32,
+    pub limit: u32,
+    /// How many MB states take at most.
+    pub memory: u32,
+    /// The names of the functions, joined by commas.
+    pub always: String,
 }
 
 /// How the fault of a source is reported.

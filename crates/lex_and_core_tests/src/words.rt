@@ -742,6 +742,50 @@ fn questions() -> &'static [Row] {
     &ROWS
 }
 
+/// Functions that are asked for every number of threads.
+fn coverages() -> &'static [Row] {
+    static ROWS: [Row; 8] = [
+        (
+            "txc|outcomes|a.c|--threads=any|--always=p",
+            br#"Ok(Cover { file: "a.c", verbose: false, format: Plain, coverage: Coverage { steps: 1000000, limit: 1000000, memory: 1024, always: "p" } })"#,
+        ),
+        (
+            "txc|outcomes|a.c|--threads|any|--always|p,q|--steps=7|--limit=8|--memory=9|--verbose",
+            br#"Ok(Cover { file: "a.c", verbose: true, format: Plain, coverage: Coverage { steps: 7, limit: 8, memory: 9, always: "p,q" } })"#,
+        ),
+        (
+            "txc|outcomes|a.c|--threads=any",
+            br#"Err(Wrong { text: "txc: usage: --threads any wants --always, and no --final, --refines or --expect\n" })"#,
+        ),
+        (
+            "txc|outcomes|a.c|--threads=any|--always=p|--final=p",
+            br#"Err(Wrong { text: "txc: usage: --threads any wants --always, and no --final, --refines or --expect\n" })"#,
+        ),
+        (
+            "txc|outcomes|a.c|--threads=any|--always=p|--refines=b.c",
+            br#"Err(Wrong { text: "txc: usage: --threads any wants --always, and no --final, --refines or --expect\n" })"#,
+        ),
+        (
+            "txc|outcomes|a.c|--threads=any|--always=p|-D|N=3",
+            br#"Ok([Definition { name: "N", number: Number { is_negative: false, magnitude: 3 } }], Cover { file: "a.c", verbose: false, format: Plain, coverage: Coverage { steps: 1000000, limit: 1000000, memory: 1024, always: "p" } })"#,
+        ),
+        (
+            "txc|outcomes|a.c|--threads=any|--always=p|-D|N=threads",
+            br#"Err(Wrong { text: "txc: usage: -D N=threads wants one number of threads\n" })"#,
+        ),
+        (
+            "txc|run|a.c|--threads=any",
+            br#"Err(Wrong { text: "txc: usage: --threads is 1 to 64\n" })"#,
+        ),
+    ];
+    &ROWS
+}
+
+#[test]
+fn reads_coverages(rt: HostRuntime) {
+    assert_none(&rt, ask_otherwise(rt.alloc(), coverages()));
+}
+
 #[test]
 fn reads_questions(rt: HostRuntime) {
     assert_none(&rt, ask_otherwise(rt.alloc(), questions()));

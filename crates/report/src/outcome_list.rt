@@ -89,7 +89,7 @@ pub(crate) fn push_reported<A: Allocator + Copy>(
 }
 
 /// Adds the end of a line: the limit that stopped the walk, if one did.
-fn push_stop<A: Allocator>(list: &mut Vec<u8, A>, end: WalkEnd) -> Result<(), AllocError>
+pub(crate) fn push_stop<A: Allocator>(list: &mut Vec<u8, A>, end: WalkEnd) -> Result<(), AllocError>
     ensures { OnOk result (list.new.items ≡ list.old.items ++ stop_words end) }
 {
     match end {
