@@ -8,7 +8,8 @@ use Rattle.parameters.specs.declared.definition.Definition.{Definition}
 use Rattle.std.proofs.lemmas.List.{take_all, take_more}
 use Rattle.std.proofs.lemmas.List.Elements.{Contains-push_cases}
 use Rattle.command.specs.declared.request.Request.{Request}
-use Rattle.command.specs.declared.request.Request.TheVariants.{Program, Certify, Compare, Ask, Explain, ExplainEnd}
+use Rattle.command.specs.declared.request.Request.TheVariants.{Program, Certify, Compare, Ask, Cover}
+use Rattle.command.specs.declared.request.Request.TheVariants.{Explain, ExplainEnd}
 use Rattle.serving.specs.Answers.{most_status}
 use Rattle.serving.specs.Files.{AnswersFiles, Contents, RefusesSource, WritesForFiles}
 use Rattle.serving.specs.Numbers.{AnswersAsked, AreWithNumbers, IsWithNumbers, IsSource, IsUsedInSource, ServesAsked, read_of, sources_of}
@@ -122,6 +123,7 @@ few_statuses (Program file verbose format task) = omega arith
 few_statuses (Certify file verbose format claim) = omega arith
 few_statuses (Compare file verbose format comparison) = omega arith
 few_statuses (Ask file verbose format questions) = omega arith
+few_statuses (Cover file verbose format coverage) = omega arith
 few_statuses (Explain number) = omega arith
 few_statuses (ExplainEnd word number) = omega arith
 

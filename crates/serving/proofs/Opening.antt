@@ -3,20 +3,23 @@ use Rattle.std.proofs.Common.{◌≡◌, ◌≢◌, ◌∙◌, ◌⊎◌, inl, i
 use Rattle.std.specs.Prelude.{IfSome}
 use Rattle.command.specs.declared.request.Claim.{Claim}
 use Rattle.command.specs.declared.request.Comparison.{Comparison}
+use Rattle.command.specs.declared.request.Coverage.{Coverage}
 use Rattle.command.specs.declared.request.Questions.{Questions}
 use Rattle.command.specs.declared.request.Task.{Task}
 use Rattle.serving.specs.Answers.{Answers}
 use Rattle.serving.specs.Certified.{CertifiesReport, WritesVerdict}
 use Rattle.serving.specs.Compared.{ComparesOutcomes, HaveNoCode, WritesComparison}
+use Rattle.serving.specs.Coverings.{AnswersCoverage, AreCoveredOfText, IsCoverageOf}
 use Rattle.serving.specs.Limits.{HasNoCode}
 use Rattle.serving.specs.Properties.{AnswersQuestions, AreFoundOfText, IsToldOf, TellsProperties}
 use Rattle.serving.specs.Refusals.{IsRefused}
 use Rattle.serving.specs.Refused.{IsRefusedFor}
 use Rattle.serving.specs.Written.{IsAskedFor, WritesPart}
-use Rattle.serving.specs.inner.Serves.{ServesClaim, ServesComparison, ServesFile, ServesQuestions, ServesTask}
+use Rattle.serving.specs.inner.Serves.{ServesClaim, ServesComparison, ServesCoverage, ServesFile, ServesQuestions, ServesTask}
 use Rattle.serving.proofs.Answering.{tells_nothing}
 use Rattle.serving.proofs.Certifying.{no_claim_verdict, nothing_claimed}
 use Rattle.serving.proofs.Comparing.{lacks_code, nothing_compared, nothing_compared_written}
+use Rattle.serving.proofs.CoveringTold.{says_nothing}
 use Rattle.serving.proofs.InTurn.{stops}
 use Rattle.serving.proofs.Refusals.{nothing_printed, refused_task, refused_text, unread_refused}
 
@@ -150,3 +153,17 @@ module _ (questions : Questions) where
 
   pub questions_opened : (known file : Option (List ℕ)) (status : ℕ) (old new : Option (List ℕ)) → known ≡ file → ServesQuestions questions known status old new → ServesQuestions questions file status old new
   questions_opened known file status old new same s = subst (λ k. ServesQuestions questions k status old new) same s
+
+-- ---- functions for every number of threads
+
+module _ (coverage : Coverage) where
+  pub coverage_read : (bytes : Option (List ℕ)) (found text : List ℕ) (status : ℕ) (old new : Option (List ℕ)) → IfSome bytes (λ b. found ≡ b) → text ≡ found → ServesCoverage coverage (Some text) status old new → ServesCoverage coverage bytes status old new
+  coverage_read = read 5 (λ text s o n. AnswersCoverage coverage text s o n) (λ text. HasNoCode text) (λ text o n. WritesPart (IsCoverageOf coverage text) o n)
+
+  pub coverage_unread : (bytes : Option (List ℕ)) (status : ℕ) (old new : Option (List ℕ)) → (status ≡ 1) × IfSome bytes (λ b. IsRefused b) ⊎ (status ≡ 2) ⊎ (status ≡ 4) → new ≡ old → ServesCoverage coverage bytes status old new
+  coverage_unread =
+      unread 5 (λ text s o n. AnswersCoverage coverage text s o n) (λ text. HasNoCode text) (λ text o n. WritesPart (IsCoverageOf coverage text) o n)
+      (λ text s o n zero three five. says_nothing (AreCoveredOfText coverage text) s o n zero five) refused_text (λ text o n same. inl same) (omega arith)
+
+  pub coverage_opened : (known file : Option (List ℕ)) (status : ℕ) (old new : Option (List ℕ)) → known ≡ file → ServesCoverage coverage known status old new → ServesCoverage coverage file status old new
+  coverage_opened known file status old new same s = subst (λ k. ServesCoverage coverage k status old new) same s

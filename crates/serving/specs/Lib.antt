@@ -52,6 +52,8 @@ pub mod Compared
 pub mod Askable
 -- properties of a source's text
 pub mod Properties
+-- properties of a source's text for every number of threads
+pub mod Coverings
 -- the response to a request
 pub mod Answers
 -- the files that a request names

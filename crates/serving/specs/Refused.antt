@@ -1,7 +1,8 @@
 -- The meaning of the exit status 1 for a source, by request.
 use Rattle.std.specs.Prelude.{ℕ, List, Option, IfSome}
 use Rattle.command.specs.declared.request.Request.{Request}
-use Rattle.command.specs.declared.request.Request.TheVariants.{Program, Certify, Compare, Ask, Explain, ExplainEnd}
+use Rattle.command.specs.declared.request.Request.TheVariants.{Program, Certify, Compare, Ask, Cover}
+use Rattle.command.specs.declared.request.Request.TheVariants.{Explain, ExplainEnd}
 use Rattle.command.specs.declared.request.Task.{Task}
 use Rattle.command.specs.declared.request.Task.TheVariants.{Check, Listing, Run, Replay, Timeline, Picture}
 use Rattle.command.specs.declared.request.Task.TheVariants.{PrintOrder, PrintSchedule, Source, Trace, Outcomes}
@@ -30,5 +31,6 @@ IsRequestRefused (Certify file verbose format claim) other bytes = IfSome bytes 
 IsRequestRefused (Compare file verbose format comparison) other bytes =
     IfSome bytes (λ text. HaveNoCode comparison.against other text)
 IsRequestRefused (Ask file verbose format questions) other bytes = IfSome bytes (λ text. HasNoCode text)
+IsRequestRefused (Cover file verbose format coverage) other bytes = IfSome bytes (λ text. HasNoCode text)
 IsRequestRefused (Explain number) other bytes = ⊥
 IsRequestRefused (ExplainEnd word number) other bytes = ⊥

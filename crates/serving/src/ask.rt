@@ -84,7 +84,10 @@ fn ask_text<A: Allocator + Copy, W: Write, E: Write>(
 }
 
 /// The names that a text has, joined by commas.
-fn pieces<'a, A: Allocator>(alloc: A, text: &'a str) -> Result<Vec<&'a str, A>, AllocError>
+pub(crate) fn pieces<'a, A: Allocator>(
+    alloc: A,
+    text: &'a str,
+) -> Result<Vec<&'a str, A>, AllocError>
     ensures { IfOk result (λ v. map (λ p. p.now) v.items ≡ slice_split (λ b. b == 44) text.now) }
 {
     text.split(',').collect(alloc)

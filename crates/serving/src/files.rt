@@ -13,6 +13,7 @@ ghost use Rattle.serving.specs.inner.Serves.{ServesTask};
 use crate::ask::open_asked;
 use crate::certify::open_claim;
 use crate::compared::open_comparison;
+use crate::cover::open_covered;
 use crate::request::{explain, explain_end, serve_program};
 use crate::tell::{Detail, Teller, not_text, refuse_replay};
 use crate::timed::Timed;
@@ -113,6 +114,17 @@ pub fn serve_files<
             let mut timed = Timed::new(err, rt);
             let mut teller = Teller::new(&mut timed, detail);
             open_asked(alloc, file.as_str(), questions, files, out, &mut teller)
+        }
+        Request::Cover {
+            file,
+            verbose,
+            format,
+            coverage,
+        } => {
+            let detail = Detail::of(file.as_str(), *verbose, *format, err.is_terminal());
+            let mut timed = Timed::new(err, rt);
+            let mut teller = Teller::new(&mut timed, detail);
+            open_covered(alloc, file.as_str(), coverage, files, out, &mut teller)
         }
         Request::Explain { number } => explain(*number, out, err),
         Request::ExplainEnd { word, number } => explain_end(word.as_str(), *number, out, err),

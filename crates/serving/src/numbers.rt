@@ -59,6 +59,12 @@ fn sources_of(request: &Request) -> Option<Sources<'_>>
             verbose,
             format,
             ..
+        }
+        | Request::Cover {
+            file,
+            verbose,
+            format,
+            ..
         } => (file.as_str(), file.as_str(), *verbose, *format),
         Request::Compare {
             file,

@@ -7,6 +7,7 @@ ghost use Rattle.serving.specs.Refused.{IsRequestRefused};
 use crate::ask::ask;
 use crate::certify::certify;
 use crate::compared::compare;
+use crate::cover::cover;
 use crate::request::{explain, explain_end, serve_program};
 use crate::tell::{Detail, Teller};
 use command::Request;
@@ -96,6 +97,16 @@ pub fn serve<
             let detail = Detail::of(file.as_str(), *verbose, *format, is_terminal);
             let mut teller = Teller::new(err, detail);
             ask(alloc, questions, source, out, &mut teller)
+        }
+        Request::Cover {
+            file,
+            verbose,
+            format,
+            coverage,
+        } => {
+            let detail = Detail::of(file.as_str(), *verbose, *format, is_terminal);
+            let mut teller = Teller::new(err, detail);
+            cover(alloc, coverage, source, out, &mut teller)
         }
         Request::Explain { number } => explain(*number, out, err),
         Request::ExplainEnd { word, number } => explain_end(word.as_str(), *number, out, err),

@@ -95,7 +95,7 @@ pub(crate) const REFUSED: Found = Err(ErrorKind::OutOfMemory);
 const OUT_OF_MEMORY: ServeResult<'static> = (4, b"", b"txc: out of memory\n");
 
 fn rows() -> &'static [Row] {
-    static ROWS: [Row; 21] = [
+    static ROWS: [Row; 22] = [
         // words that make no request open no file
         (
             "txc run a.c --threads 65",
@@ -235,6 +235,16 @@ fn rows() -> &'static [Row] {
             NONE,
             false,
             (2, b"", b"txc: -D y: no such name in a.c\n"),
+        ),
+        // for every number of threads too
+        (
+            "txc outcomes a.c --threads any --always kept -D N=3",
+            Ok(
+                b"int x; int kept(void) { return x < N; } void worker(int self) { __transaction_atomic { x = (x + 1) % N; } }",
+            ),
+            NONE,
+            false,
+            (0, b"== always kept: 1 to 64 threads, nodes 3\n", b""),
         ),
         // and in the other program too
         (

@@ -249,7 +249,7 @@ pub(crate) fn keep_files<F: Files, E: Write>(
                 err,
             )?;
         }
-        Request::Ask { file, verbose, .. } => {
+        Request::Ask { file, verbose, .. } | Request::Cover { file, verbose, .. } => {
             keep(
                 alloc,
                 &NamedFile::source(file.as_str(), *verbose),

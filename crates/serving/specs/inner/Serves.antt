@@ -2,8 +2,10 @@
 use Rattle.std.specs.Prelude.{◌≡◌, ◌≤◌, ◌++◌, ℕ, List, Option, IfSome}
 use Rattle.command.specs.declared.request.Claim.{Claim}
 use Rattle.command.specs.declared.request.Comparison.{Comparison}
+use Rattle.command.specs.declared.request.Coverage.{Coverage}
 use Rattle.command.specs.declared.request.Questions.{Questions}
 use Rattle.command.specs.declared.request.Task.{Task}
+use Rattle.report.specs.Coverings.{CoveredProperty}
 use Rattle.report.specs.OutcomeList.{ReportedOrder}
 use Rattle.report.specs.Printed.{Printed}
 use Rattle.report.specs.Properties.{Property}
@@ -12,6 +14,7 @@ use Rattle.report.specs.declared.outcome_list.WalkEnd.{WalkEnd}
 use Rattle.serving.specs.Answers.{Answers}
 use Rattle.serving.specs.Certified.{CertifiesReport, SaysSo, ShowsDifference, WritesVerdict}
 use Rattle.serving.specs.Compared.{ComparesOutcomes, HaveNoCode, WritesComparison}
+use Rattle.serving.specs.Coverings.{AnswersCoverage, IsCoverageOf, IsTextOfCoverings, TellsCoverings}
 use Rattle.serving.specs.Expected.{SaysExpected, ShowsUnexpected}
 use Rattle.serving.specs.InTurn.{AreTextsInTurn, SaysInTurn}
 use Rattle.serving.specs.Limits.{HasNoCode}
@@ -72,6 +75,12 @@ abbrev pub ServesQuestions : Questions → (bytes : Option (List ℕ)) → (stat
 ServesQuestions questions bytes status old new =
     ServesFile 5 (λ text s o n. AnswersQuestions questions text s o n) (λ text. HasNoCode text)
     (λ text o n. WritesPart (IsToldOf questions text) o n) bytes status old new
+
+-- queries of them for every number of threads
+abbrev pub ServesCoverage : Coverage → (bytes : Option (List ℕ)) → (status : ℕ) → (old new : Option (List ℕ)) → Type 0
+ServesCoverage coverage bytes status old new =
+    ServesFile 5 (λ text s o n. AnswersCoverage coverage text s o n) (λ text. HasNoCode text)
+    (λ text o n. WritesPart (IsCoverageOf coverage text) o n) bytes status old new
 
 -- whether something holds of these bytes or not
 abbrev pub ServesEither : (IsSo IsNot : List ℕ → List ℕ → Type 0) → (Refuses : Type 0) → (bytes : Option (List ℕ)) →
@@ -141,3 +150,9 @@ abbrev pub PrintsPropertiesInTurn : (AreFound : (threads : ℕ) → WalkEnd → 
 PrintsPropertiesInTurn AreFound more threads status old new =
     PrintsInTurn 5 (λ k s o n. TellsProperties k (AreFound k) s o n)
     (λ k written. IsTextOfProperties k (AreFound k) written) more threads status old new
+
+-- likewise, findings for every number of threads
+abbrev pub PrintsCoverings : (AreFound : List CoveredProperty → Type 0) → (status : ℕ) → (old new : Option (List ℕ)) →
+    Type 0
+PrintsCoverings AreFound status old new =
+    Serves 5 (TellsCoverings AreFound) ⊥ (WritesPart (IsTextOfCoverings AreFound)) status old new
