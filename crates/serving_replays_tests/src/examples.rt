@@ -270,6 +270,27 @@ type Transcript = (
 fn first_transcripts() -> &'static [Transcript] {
     static ROWS: [Transcript; 18] = [
         (
+            "txc outcomes examples/properties/bank.c --threads any --always kept,covered",
+            b"// Three accounts, and threads that move money round: each moves 10 from its own to the next, twice, in one transaction.\nint account[3] = {20, 20, 20};\n\nint kept(void) {\n    int i, sum = 0;\n    for (i = 0; i < 3; i++) sum = sum + account[i];\n    return sum == 60;\n}\n\nint covered(void) { return account[0] >= 0 && account[1] >= 0 && account[2] >= 0; }\n\nvoid worker(int self) {\n    int i, from = self % 3, to = (self + 1) % 3;\n    for (i = 0; i < 2; i++) {\n        __transaction_atomic {\n            if (account[from] >= 10) {\n                account[from] = account[from] - 10;\n                account[to] = account[to] + 10;\n            }\n        }\n    }\n}\n",
+            b"",
+            b"",
+            b"== always kept: 1 to 64 threads, nodes 28\n== always covered: 1 to 64 threads, nodes 28\n",
+        ),
+        (
+            "txc outcomes examples/properties/fifth.c --threads any --always whole",
+            b"// Each thread takes a number, and the fifth one breaks the property: four threads never do.\nint at, broken;\n\nint whole(void) { return broken == 0; }\n\nvoid worker(int self) {\n    int mine;\n    __transaction_atomic { mine = at; at = (at + 1) % 8; }\n    if (mine == 4) __transaction_atomic { broken = 1; }\n}\n",
+            b"",
+            b"",
+            b"== not whole --threads 5 --order 0,1,2,3,4,4\n== thread 0: ended\n== thread 1: ended\n== thread 2: ended\n== thread 3: ended\n== thread 4: ended\n== memory\nat = 5\nbroken = 1\n",
+        ),
+        (
+            "txc outcomes examples/properties/readers.c --threads any --always apart",
+            b"// Up to three readers, or one writer. Even threads read, and odd ones write.\nint readers, writing, reading_now, writing_now;\n\nint apart(void) { return writing_now <= 1 && (writing_now == 0 || reading_now == 0); }\n\nvoid worker(int self) {\n    int writes = self % 2, go;\n    while (1) {\n        go = 0;\n        if (writes) {\n            while (!go) { __transaction_atomic { go = !writing && readers == 0; if (go) writing = 1; } }\n            __transaction_atomic { writing_now = writing_now + 1; }\n            __transaction_atomic { writing_now = writing_now - 1; }\n            __transaction_atomic { writing = 0; }\n        } else {\n            while (!go) { __transaction_atomic { go = !writing && readers < 3; if (go) readers = readers + 1; } }\n            __transaction_atomic { reading_now = reading_now + 1; }\n            __transaction_atomic { reading_now = reading_now - 1; }\n            __transaction_atomic { readers = readers - 1; }\n        }\n    }\n}\n",
+            b"",
+            b"",
+            b"== always apart: 1 to 64 threads, nodes 23\n",
+        ),
+        (
             "txc outcomes examples/properties/average.c --threads 2 --always average_is_small,comes_to_an_end --steps 1000",
             b"// A property may trap, for example by a division by 0, or may never end.\nint sum, count, steps = 1;\n\nint average_is_small(void) { return sum / count < 10; }\n\nint comes_to_an_end(void) {\n    int i = 0;\n    while (i != count * 2) i = i + 2 * steps;\n    return 1;\n}\n\nvoid worker(int self) {\n    __transaction_atomic { sum = sum + self; }\n    __transaction_atomic { count = count + 1; }\n    __transaction_atomic { steps = 0; }\n}\n\n// txc: --threads 2 --always average_is_small,comes_to_an_end --steps 1000 (fails)\n",
             b"",
@@ -374,6 +395,12 @@ fn first_transcripts() -> &'static [Transcript] {
             b"",
             b"== always no_seat_twice: states 9, threads: 2\n== not no_seat_twice --order 0,0,1,2,1,2\n== thread 0: ended\n== thread 1: ended\n== thread 2: ended\n== memory\nseats = -1\nsold = 3\ntxc: each property has its answer, so the search stopped; --keep-going continues it\n",
         ),
+    ];
+    &ROWS
+}
+
+fn second_transcripts() -> &'static [Transcript] {
+    static ROWS: [Transcript; 18] = [
         (
             "txc certify examples/hashset.c --threads 2 --order-file examples/orders/hashset.txt --report examples/orders/hashset.out",
             b"// A set of numbers in a table of 16 places, without a lock of its own: each insertion is one step.\nint place[16], count;\n\nint insert(int key) {\n    int at = key * 7 & 15, added = 0;\n    __transaction_atomic {\n        while (place[at] != 0 && place[at] != key) at = at + 1 & 15;\n        if (place[at] == 0) {\n            place[at] = key;\n            count = count + 1;\n            added = 1;\n        }\n    }\n    return added;\n}\n\nvoid worker(int self) {\n    int i, added = 0;\n    for (i = 1; i <= 4; i++) added = added + insert(i * (self + 1));\n    printf(\"%d added\\n\", added);\n}\n",
@@ -395,12 +422,6 @@ fn first_transcripts() -> &'static [Transcript] {
             b"",
             b"accepted\n",
         ),
-    ];
-    &ROWS
-}
-
-fn second_transcripts() -> &'static [Transcript] {
-    static ROWS: [Transcript; 18] = [
         (
             "txc check examples/refused/bare.c",
             b"int x;\nvoid worker(int self) { x = 1; }\n",
@@ -506,6 +527,12 @@ fn second_transcripts() -> &'static [Transcript] {
             b"",
             b"trap 3: an index outside its array\nWhen: an index of a read or write is negative, or not below the array's length\nExample: `int a[5];` and `a[5] = 1;` in a transaction\n",
         ),
+    ];
+    &ROWS
+}
+
+fn third_transcripts() -> &'static [Transcript] {
+    static ROWS: [Transcript; 18] = [
         (
             "txc listing examples/first.c",
             b"int x = 40, y; void worker(int self) { __transaction_atomic { x = x + 2; y = x - 1; } }\n",
@@ -527,12 +554,6 @@ fn second_transcripts() -> &'static [Transcript] {
             b"",
             b"== outcome --order 0,0,1\n== thread 0: ended\n== thread 1: ended\n160\n== memory\nchecking = 70\nsavings = 90\n== outcome --order 0,1,0\n== thread 0: ended\n== thread 1: ended\n110\n== memory\nchecking = 70\nsavings = 90\n== outcomes: 2, stuck: 0, states: 8, threads: 2\n",
         ),
-    ];
-    &ROWS
-}
-
-fn third_transcripts() -> &'static [Transcript] {
-    static ROWS: [Transcript; 18] = [
         (
             "txc outcomes examples/audit_mended.c --threads 2",
             b"// Thread 0 moves 50 in one transaction, so thread 1 always finds all of the money.\nint checking = 120, savings = 40;\n\nvoid worker(int self) {\n    int total;\n    if (self == 0) {\n        __transaction_atomic {\n            checking = checking - 50;\n            savings = savings + 50;\n        }\n    } else {\n        __transaction_atomic { total = checking + savings; }\n        printf(\"%d\\n\", total);\n    }\n}\n",
@@ -638,6 +659,12 @@ fn third_transcripts() -> &'static [Transcript] {
             b"",
             b"== events\n12 0 commit\n24 0 commit\n29 0 cancel\n== thread 0: ended\n== memory\nframes = 1\nwheels = 1\nbuilt = 2\n",
         ),
+    ];
+    &ROWS
+}
+
+fn fourth_transcripts() -> &'static [Transcript] {
+    static ROWS: [Transcript; 18] = [
         (
             "txc replay examples/counter.c --threads 2 --schedule examples/schedules/counter.txt",
             b"// Each thread adds one, three times. No addition is lost, however the threads interleave.\nint x;\n\nvoid worker(int self) {\n    int i;\n    for (i = 0; i < 3; i++) {\n        __transaction_atomic { x = x + 1; }\n    }\n}\n",
@@ -659,12 +686,6 @@ fn third_transcripts() -> &'static [Transcript] {
             b"",
             b"== events\n9 1 commit\n12 0 abort\n== thread 0: running\n== thread 1: running\n== memory\nx = 1\ntxc: thread 0: running at 7:9\n        __transaction_atomic { x = x + 1; }\n        ^^^^^^^^^^^^^^^^^^^^\ntxc: thread 1: running at 6:24\n    for (i = 0; i < 3; i++) {\n                       ^\n",
         ),
-    ];
-    &ROWS
-}
-
-fn fourth_transcripts() -> &'static [Transcript] {
-    static ROWS: [Transcript; 18] = [
         (
             "txc replay examples/counter.c --threads 2 --seed 10 --steps 6 --print-schedule",
             b"// Each thread adds one, three times. No addition is lost, however the threads interleave.\nint x;\n\nvoid worker(int self) {\n    int i;\n    for (i = 0; i < 3; i++) {\n        __transaction_atomic { x = x + 1; }\n    }\n}\n",
@@ -770,6 +791,12 @@ fn fourth_transcripts() -> &'static [Transcript] {
             b"",
             b"== thread 0: ended\n== thread 1: ended\n== memory\ntrain = 0\nbus = 6\nasked = 4\nby_train = 1\nby_bus = 3\n",
         ),
+    ];
+    &ROWS
+}
+
+fn fifth_transcripts() -> &'static [Transcript] {
+    static ROWS: [Transcript; 15] = [
         (
             "txc source examples/against/clear_torn.c --threads 2 --order 0,1",
             b"// Thread 0 clears an array in one transaction, thread 1 reads both ends of it in another. So it prints 1 1, or 0 0.\nunsigned a[8] = {1, 1, 1, 1, 1, 1, 1, 1};\n\nvoid worker(int self) {\n    unsigned first = 0, last = 0;\n    if (self == 0) {\n        __transaction_atomic {\n            for (int i = 0; i < 8; i++) a[i] = 0;\n        }\n    } else {\n        __transaction_atomic {\n            first = a[0]; /*pause*/\n            last = a[7];\n        }\n        printf(\"%u %u\\n\", first, last);\n    }\n}\n",
@@ -791,12 +818,6 @@ fn fourth_transcripts() -> &'static [Transcript] {
             b"",
             b"== thread 0: ended\n== thread 1: ended\n== memory\nx = 6\n",
         ),
-    ];
-    &ROWS
-}
-
-fn fifth_transcripts() -> &'static [Transcript] {
-    static ROWS: [Transcript; 12] = [
         (
             "txc source examples/counter.c --threads 2 --order 0,1,1",
             b"// Each thread adds one, three times. No addition is lost, however the threads interleave.\nint x;\n\nvoid worker(int self) {\n    int i;\n    for (i = 0; i < 3; i++) {\n        __transaction_atomic { x = x + 1; }\n    }\n}\n",
