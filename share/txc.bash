@@ -6,7 +6,7 @@ _txc() {
             words='short json'
             [[ ${COMP_WORDS[1]} == test ]] && words='github json' ;;
         --expect | --order-file | --refines | --report | --schedule) ;;
-        --always | --budget | --final | --from | --limit | --memory | --order | --property | --seed | --steps | --threads | --ticks) return ;;
+        --always | --budget | --final | --from | --limit | --memory | --order | --property | --seed | --steps | --threads | --ticks | --time) return ;;
         *)
             if ((COMP_CWORD == 1)); then
                 words='check listing run replay source trace outcomes certify test explain --help --version'
@@ -18,7 +18,7 @@ _txc() {
                     replay) words='--verbose --format --threads --schedule --seed --steps --order --timeline --picture --from --print-schedule --help' ;;
                     source) words='--verbose --format --threads --order --ticks --help' ;;
                     trace) words='--verbose --format --threads --order --property --help' ;;
-                    outcomes) words='--verbose --format --threads --steps --limit --memory --refines --expect --always --final --keep-going --help' ;;
+                    outcomes) words='--verbose --format --threads --steps --limit --memory --time --refines --expect --always --final --keep-going --help' ;;
                     certify) words='--verbose --format --threads --order-file --report --ticks --help' ;;
                     test) words='--format --list --help' ;;
                     explain) words='--help' ;;

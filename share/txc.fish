@@ -61,6 +61,7 @@ complete -c txc -n '__fish_seen_subcommand_from outcomes' -l threads -x -d 'Numb
 complete -c txc -n '__fish_seen_subcommand_from outcomes' -l steps -x -d 'Limit on the steps of a transaction and the code after it, 0 to 4294967295 [default: 1000000]'
 complete -c txc -n '__fish_seen_subcommand_from outcomes' -l limit -x -d 'Limit on the number of states explored, 0 to 4294967295 [default: 1000000]'
 complete -c txc -n '__fish_seen_subcommand_from outcomes' -l memory -x -d 'Limit on the memory for states and list, in MB, 0 to 4294967295 [default: 1024]'
+complete -c txc -n '__fish_seen_subcommand_from outcomes' -l time -x -d 'Limit on the seconds of the search, 0 to 4294967295; the list may take as many more [default: no limit]'
 complete -c txc -n '__fish_seen_subcommand_from outcomes' -l refines -r -F -d 'Check that each outcome of FILE is one of the program B too, in place of the list; if not, print one that is not'
 complete -c txc -n '__fish_seen_subcommand_from outcomes' -l expect -r -F -d 'Check that the list is the text of the file LIST, byte for byte; if not, print the first line that differs'
 complete -c txc -n '__fish_seen_subcommand_from outcomes' -l always -x -d 'Check that functions `int NAME(void)` of FILE return nonzero in every state, in place of the list; names are joined by commas'

@@ -202,11 +202,12 @@ IsTask name given (Source threads order ticks) = (name ≡ codes "source") × Ar
 IsTask name given (Trace threads order property) = (name ≡ codes "trace")
     × IsNumberInRange given (codes "threads") 2 1 64 threads
     × IsOrderGiven given order.items × (option_map string_bytes property ≡ first_of (codes "property") given)
-IsTask name given (Outcomes threads steps limit memory) = (name ≡ codes "outcomes")
+IsTask name given (Outcomes threads steps limit memory time) = (name ≡ codes "outcomes")
     × AreThreadsExplored given threads.first threads.last
     × IsNumberInRange given (codes "steps") 1000000 0 4294967295 steps
     × IsNumberInRange given (codes "limit") 1000000 0 4294967295 limit
-    × IsNumberInRange given (codes "memory") 1024 0 4294967295 memory × AreUncompared given × (are_asked given ≡ false)
+    × IsNumberInRange given (codes "memory") 1024 0 4294967295 memory × IsNumberRead (one_of (codes "time") given) time
+    × AreUncompared given × (are_asked given ≡ false)
 
 -- the properties to check: functions that must hold in every state, and those that must hold in every outcome
 pub record AreQuestions (given : List Row) (questions : Questions) : Type 0 where
@@ -214,6 +215,7 @@ pub record AreQuestions (given : List Row) (questions : Questions) : Type 0 wher
   pub steps : IsNumberInRange given (codes "steps") 1000000 0 4294967295 questions.steps
   pub limit : IsNumberInRange given (codes "limit") 1000000 0 4294967295 questions.limit
   pub memory : IsNumberInRange given (codes "memory") 1024 0 4294967295 questions.memory
+  pub time : IsNumberRead (one_of (codes "time") given) questions.time
   pub always : option_map string_bytes questions.always ≡ first_of (codes "always") given
   pub last : option_map string_bytes questions.last ≡ first_of (codes "final") given
   pub keeps_going : IsTrue questions.keeps_going ↔ IsFlagged given (codes "keep-going")
@@ -269,6 +271,7 @@ pub record IsComparison (given : List Row) (comparison : Comparison) : Type 0 wh
   pub steps : IsNumberInRange given (codes "steps") 1000000 0 4294967295 comparison.steps
   pub limit : IsNumberInRange given (codes "limit") 1000000 0 4294967295 comparison.limit
   pub memory : IsNumberInRange given (codes "memory") 1024 0 4294967295 comparison.memory
+  pub time : IsNumberRead (one_of (codes "time") given) comparison.time
   pub against : IsAgainst given comparison.against
   pub listed : IsListedFor comparison.against comparison.threads.first comparison.threads.last
 

@@ -8,7 +8,7 @@ ghost use Rattle.command.specs.declared.request.Comparison.{Comparison};
 ghost use Rattle.command.specs.inner.Refusals.{IsOwn};
 
 use crate::claim::file_given;
-use crate::given::{text_given, wrong};
+use crate::given::{number_given, text_given, wrong};
 use crate::range::threads_explored;
 use crate::request::{Against, Comparison, ThreadRange, UsageFault};
 use crate::task::number;
@@ -88,6 +88,7 @@ pub(crate) fn comparison(alloc: Global, given: &ArgMatches<'_>) -> Result<Compar
     let steps = number(alloc, given, "steps", 1000000, 0, u32::MAX)?;
     let limit = number(alloc, given, "limit", 1000000, 0, u32::MAX)?;
     let memory = number(alloc, given, "memory", 1024, 0, u32::MAX)?;
+    let time = number_given(alloc, given, "time", 0, u32::MAX)?;
     let against = against(alloc, given)?;
     if !are_comparable(threads, &against) {
         return Err(wrong(alloc, "--expect wants one number of threads"));
@@ -97,6 +98,7 @@ pub(crate) fn comparison(alloc: Global, given: &ArgMatches<'_>) -> Result<Compar
         steps,
         limit,
         memory,
+        time,
         against,
     })
 }

@@ -413,6 +413,13 @@ fn outcome_states<'a>(alloc: Global) -> Result<Command<'a>, AllocError>
         "Limit on the memory for states and list, in MB, 0 to 4294967295 [default: 1024]",
     );
     let command = with(command, memory);
+    let time = text(
+        alloc,
+        "time",
+        "SECONDS",
+        "Limit on the seconds of the search, 0 to 4294967295; the list may take as many more [default: no limit]",
+    );
+    let command = with(command, time);
     let refines = text(
         alloc,
         "refines",

@@ -124,6 +124,8 @@ pub struct Comparison {
     pub limit: u32,
     /// How many MB states and list take at most.
     pub memory: u32,
+    /// How many seconds the search takes at most.
+    pub time: Option<u32>,
     pub against: Against,
 }
 
@@ -145,6 +147,8 @@ pub struct Questions {
     pub limit: u32,
     /// How many MB states and list take at most.
     pub memory: u32,
+    /// How many seconds the search takes at most.
+    pub time: Option<u32>,
     /// Functions that must hold in every state: their names, joined by commas.
     pub always: Option<String>,
     /// Functions that must hold in every outcome.
@@ -241,12 +245,14 @@ pub enum Task {
         property: Option<String>,
     },
     /// Lists the outcomes of 1 to 64 threads in all orders, over at most so many states. In a turn a thread makes at
-    /// most so many steps of its code, and states and list take about so many MB of memory.
+    /// most so many steps of its code, and states and list take about so many MB of memory. The search takes at most
+    /// about so many seconds, if a number is given.
     Outcomes {
         threads: ThreadRange,
         steps: u32,
         limit: u32,
         memory: u32,
+        time: Option<u32>,
     },
 }
 

@@ -227,6 +227,7 @@ fn outcomes(alloc: Global, given: &ArgMatches<'_>) -> Result<Task, UsageFault>
         steps: number(alloc, given, "steps", 1000000, 0, u32::MAX)?,
         limit: number(alloc, given, "limit", 1000000, 0, u32::MAX)?,
         memory: number(alloc, given, "memory", 1024, 0, u32::MAX)?,
+        time: number_given(alloc, given, "time", 0, u32::MAX)?,
     })
 }
 

@@ -9,25 +9,25 @@ fn ranges() -> &'static [Row] {
     static ROWS: [Row; 7] = [
         (
             "txc|outcomes|a.c|--threads|2..4",
-            br#"Ok(Program { file: "a.c", verbose: false, format: Plain, task: Outcomes { threads: ThreadRange { first: 2, last: 4 }, steps: 1000000, limit: 1000000, memory: 1024 } })"#,
+            br#"Ok(Program { file: "a.c", verbose: false, format: Plain, task: Outcomes { threads: ThreadRange { first: 2, last: 4 }, steps: 1000000, limit: 1000000, memory: 102, time: None4, time: None } })"#,
         ),
         (
             "txc|outcomes|a.c|--threads=1..64|--always=p",
-            br#"Ok(Ask { file: "a.c", verbose: false, format: Plain, questions: Questions { threads: ThreadRange { first: 1, last: 64 }, steps: 1000000, limit: 1000000, memory: 1024, always: Some("p"), last: None, keeps_going: false } })"#,
+            br#"Ok(Ask { file: "a.c", verbose: false, format: Plain, questions: Questions { threads: ThreadRange { first: 1, last: 64 }, steps: 1000000, limit: 1000000, memory: 1024, time: None, always: Some("p"), last: None, keeps_going: false } })"#,
         ),
         (
             "txc|outcomes|a.c|--threads=03..3|--refines=b.c",
-            br#"Ok(Compare { file: "a.c", verbose: false, format: Plain, comparison: Comparison { threads: ThreadRange { first: 3, last: 3 }, steps: 1000000, limit: 1000000, memory: 1024, against: Refined { file: "b.c" } } })"#,
+            br#"Ok(Compare { file: "a.c", verbose: false, format: Plain, comparison: Comparison { threads: ThreadRange { first: 3, last: 3 }, steps: 1000000, limit: 1000000, memory: 1024, time: None, against: Refined { file: "b.c" } } })"#,
         ),
         // a number alone may have a plus, as for other options
         (
             "txc|outcomes|a.c|--threads=+3|--expect=l",
-            br#"Ok(Compare { file: "a.c", verbose: false, format: Plain, comparison: Comparison { threads: ThreadRange { first: 3, last: 3 }, steps: 1000000, limit: 1000000, memory: 1024, against: Expected { file: "l" } } })"#,
+            br#"Ok(Compare { file: "a.c", verbose: false, format: Plain, comparison: Comparison { threads: ThreadRange { first: 3, last: 3 }, steps: 1000000, limit: 1000000, memory: 1024, time: None, against: Expected { file: "l" } } })"#,
         ),
         // a list is of one number of threads
         (
             "txc|outcomes|a.c|--threads=3..3|--expect=l",
-            br#"Ok(Compare { file: "a.c", verbose: false, format: Plain, comparison: Comparison { threads: ThreadRange { first: 3, last: 3 }, steps: 1000000, limit: 1000000, memory: 1024, against: Expected { file: "l" } } })"#,
+            br#"Ok(Compare { file: "a.c", verbose: false, format: Plain, comparison: Comparison { threads: ThreadRange { first: 3, last: 3 }, steps: 1000000, limit: 1000000, memory: 1024, time: None, against: Expected { file: "l" } } })"#,
         ),
         (
             "txc|outcomes|a.c|--threads=2..3|--expect=l",

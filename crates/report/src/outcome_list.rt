@@ -32,6 +32,8 @@ pub enum WalkEnd {
     AtSteps,
     /// The states and the list take more memory than they may.
     AtMemory,
+    /// The search or the list takes more time than it may.
+    AtTime,
 }
 
 /// Adds thread numbers, with a comma before each.
@@ -97,6 +99,7 @@ pub(crate) fn push_stop<A: Allocator>(list: &mut Vec<u8, A>, end: WalkEnd) -> Re
         WalkEnd::AtLimit => push_bytes(list, b", stopped at the limit\n"),
         WalkEnd::AtSteps => push_bytes(list, b", stopped at the steps\n"),
         WalkEnd::AtMemory => push_bytes(list, b", stopped at the memory\n"),
+        WalkEnd::AtTime => push_bytes(list, b", stopped at the time\n"),
     }
 }
 

@@ -22,7 +22,7 @@ IsRefusedFor (PrintSchedule threads seed count) text = HasNoCode text
 IsRefusedFor (PrintOrder threads order) text = HasNoCode text
 IsRefusedFor (Source threads order ticks) text = IsRefused text
 IsRefusedFor (Trace threads order property) text = HasNoCode text
-IsRefusedFor (Outcomes threads steps limit memory) text = HasNoCode text
+IsRefusedFor (Outcomes threads steps limit memory time) text = HasNoCode text
 
 -- why a request is refused, if these are the bytes of the file and of what its outcomes are compared with
 abbrev pub IsRequestRefused : Request → (other bytes : Option (List ℕ)) → Type 0

@@ -78,7 +78,7 @@ IsAskedFor (PrintOrder threads order) schedule text written = IsOrderSchedule th
 IsAskedFor (Source threads order ticks) schedule text written =
     IsReportOf (λ shown. RunsInOrder threads ticks order.items text shown × Accepts text) written
 IsAskedFor (Trace threads order property) schedule text written = IsOrderTrace threads order.items text written
-IsAskedFor (Outcomes threads steps limit memory) schedule text written =
+IsAskedFor (Outcomes threads steps limit memory time) schedule text written =
     AreTextsOfRange (λ n list. IsListOfOutcomes n text list) threads written
 
 -- a text is written, or a prefix of it

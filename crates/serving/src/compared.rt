@@ -159,6 +159,7 @@ pub(crate) fn tell_stopped<E: Write>(
     let _ = match end {
         WalkEnd::AtSteps => teller.err.write_all(b"stopped at the steps\n"),
         WalkEnd::AtMemory => teller.err.write_all(b"stopped at the memory\n"),
+        WalkEnd::AtTime => teller.err.write_all(b"stopped at the time\n"),
         WalkEnd::Whole | WalkEnd::AtLimit => teller.err.write_all(b"stopped at the limit\n"),
     };
     if teller.detail.lines {

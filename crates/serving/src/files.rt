@@ -49,7 +49,7 @@ pub trait Files {
 /// The source is opened first, and then a schedule, or an order and a report, or what outcomes are compared with, where
 /// they are named. What cannot be opened is told of as what cannot be read. The line of a fault follows it where `err` is
 /// a terminal, or the words ask for it. A line that tells there how far a walk over states is has the seconds since it
-/// was asked for, by the clock of `rt`.
+/// was asked for, by the clock of `rt`. By it a search ends that may take so many seconds.
 pub fn serve_files<
     H: Threads + Wait + Clock + Sync,
     F: Files,
@@ -72,8 +72,8 @@ pub fn serve_files<
             let file = file.as_str();
             let detail = Detail::of(file, *verbose, *format, err.is_terminal());
             match task {
-                Task::Outcomes { .. } => {
-                    let mut timed = Timed::new(err, rt);
+                Task::Outcomes { time, .. } => {
+                    let mut timed = Timed::new(err, rt, *time);
                     let mut teller = Teller::new(&mut timed, detail);
                     open_source(rt, alloc, file, task, files, out, &mut teller)
                 }
@@ -100,7 +100,7 @@ pub fn serve_files<
             comparison,
         } => {
             let detail = Detail::of(file.as_str(), *verbose, *format, err.is_terminal());
-            let mut timed = Timed::new(err, rt);
+            let mut timed = Timed::new(err, rt, comparison.time);
             let mut teller = Teller::new(&mut timed, detail);
             open_comparison(alloc, file.as_str(), comparison, files, out, &mut teller)
         }
@@ -111,7 +111,7 @@ pub fn serve_files<
             questions,
         } => {
             let detail = Detail::of(file.as_str(), *verbose, *format, err.is_terminal());
-            let mut timed = Timed::new(err, rt);
+            let mut timed = Timed::new(err, rt, questions.time);
             let mut teller = Teller::new(&mut timed, detail);
             open_asked(alloc, file.as_str(), questions, files, out, &mut teller)
         }

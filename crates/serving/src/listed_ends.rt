@@ -74,6 +74,8 @@ pub(crate) fn tell_stop<E: Write>(end: WalkEnd, err: &mut E) {
         WalkEnd::AtLimit => "--limit L is how many states it looks at",
         WalkEnd::AtSteps => "--steps N is how many steps a thread may make in one turn",
         WalkEnd::AtMemory => "--memory MB is how much memory states and list may take",
+        WalkEnd::AtTime =>
+            "--time SECONDS is how long the search may take, and as long again the list",
     };
     let _ = writeln!(err, "txc: {words}");
 }

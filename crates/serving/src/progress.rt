@@ -1,9 +1,13 @@
-//! How far a walk over the states of threads is, in one line of standard error, and whether there is memory for more.
+//! How far a walk over the states of threads is, in one line of standard error, and whether there are memory and time for
+//! more.
+
+ghost use Rattle.std.specs.Prelude.{◌≢◌, IfSome};
+ghost use Rattle.report.specs.declared.outcome_list.WalkEnd.TheVariants.{Whole};
 
 use crate::listed_bytes::bytes_of;
-use report::ReportSet;
+use report::{ReportSet, WalkEnd};
 use std::alloc::Allocator;
-use std::io::Write;
+use std::io::{ErrorKind, Write};
 use walks::{Progress, Walk};
 
 /// After how many further states or outcomes the line is written anew.
@@ -29,6 +33,10 @@ pub(crate) struct ProgressLine<'e, E: Write> {
     listed_bytes: u64,
     /// Whether more memory was wanted.
     is_full: bool,
+    /// Whether the search, or the list, took longer than it may.
+    is_late: bool,
+    /// Whether what is made now has no more time.
+    is_over: bool,
 }
 
 impl<'e, E: Write> ProgressLine<'e, E> {
@@ -45,25 +53,46 @@ impl<'e, E: Write> ProgressLine<'e, E> {
             listed: 0,
             listed_bytes: 0,
             is_full: false,
+            is_late: false,
+            is_over: false,
         }
     }
 
     /// The walk is over: so many states are found, and no outcome is listed. The states grow no more, so they take no
-    /// more than their half.
+    /// more than their half. The list has time of its own.
     pub(crate) fn walked(&mut self, states: usize) {
+        self.is_over = false;
         self.states = states;
         self.held = self.held.min(self.most / 2);
         self.due = STRIDE;
     }
 
-    /// Whether more memory was wanted than there is.
-    pub(crate) fn is_full(&self) -> bool {
-        self.is_full
+    /// What ran out, if something did: memory or time.
+    pub(crate) fn shortage(&self) -> Option<WalkEnd>
+        ensures { IfSome result (λ e. e ≢ Whole) }
+    {
+        if self.is_full {
+            Some(WalkEnd::AtMemory)
+        } else if self.is_late {
+            Some(WalkEnd::AtTime)
+        } else {
+            None
+        }
     }
 
-    /// Whether there is memory for what is listed.
+    /// Whether there are memory and time for what is listed.
     pub(crate) fn has_room(&self) -> bool {
-        self.held.saturating_add(self.listed_bytes) <= self.most
+        !self.is_over && self.held.saturating_add(self.listed_bytes) <= self.most
+    }
+
+    /// Notes whether the time is used up: the flush of a writer with a time limit then fails.
+    fn watch_time(&mut self) {
+        if let Err(error) = self.err.flush() {
+            if let ErrorKind::TimedOut = error.kind() {
+                self.is_late = true;
+                self.is_over = true;
+            }
+        }
     }
 
     /// These are listed, of outcomes or of stuck orders, one more than before or none.
@@ -74,11 +103,12 @@ impl<'e, E: Write> ProgressLine<'e, E> {
             if let Some(last) = listed.last() {
                 self.listed_bytes = self.listed_bytes.saturating_add(bytes_of(last));
             }
-            if !self.has_room() {
+            if self.held.saturating_add(self.listed_bytes) > self.most {
                 self.is_full = true;
             }
         }
         self.show_listed(count);
+        self.watch_time();
     }
 
     /// Writes how many are listed.
@@ -87,7 +117,6 @@ impl<'e, E: Write> ProgressLine<'e, E> {
             self.due = listed.saturating_add(STRIDE);
             self.is_shown = true;
             let _ = write!(self.err, "\rtxc: {} states, {listed} outcomes", self.states);
-            let _ = self.err.flush();
         }
     }
 
@@ -111,8 +140,8 @@ impl<A: Allocator + Copy, E: Write> Progress<A> for ProgressLine<'_, E> {
             self.due = states.saturating_add(STRIDE);
             self.is_shown = true;
             let _ = write!(self.err, "\rtxc: {states} states");
-            let _ = self.err.flush();
         }
-        !self.is_full
+        self.watch_time();
+        !self.is_full && !self.is_over
     }
 }

@@ -180,6 +180,7 @@ fn work_alone<A: Allocator + Copy, S: Read + Drop, W: Write, E: Write>(
             steps,
             limit,
             memory,
+            ..
         } => all_outcomes(
             alloc,
             text,

@@ -1,27 +1,43 @@
-//! A writer that says how long something takes.
+//! A writer that adds the seconds that have passed to a progress line, and reports when a time limit is reached.
 
 use std::io;
-use std::io::Write;
+use std::io::{ErrorKind, Write};
 use std::time::{Clock, Instant};
 
-/// A writer that puts the whole seconds since it was made behind each text that is flushed, as in `, 12 s`: for a line
-/// that tells how far a walk is, and is flushed when it is whole. Nothing is put there within the first second, nor
-/// where the clock can't be read.
+/// A writer that appends the whole seconds since it was made to each open line that is flushed, as in `, 12 s`, for a
+/// progress line. A line is open until its end or a carriage return is written. Nothing is appended within the first
+/// second, nor if the clock can't be read.
+///
+/// If the time has a limit, a flush fails with `TimedOut` once these seconds have passed, and again each time that as
+/// many more have passed. No other flush fails.
 #[derive(Drop)]
 pub struct Timed<'a, W: Write, C: Clock> {
     writer: &'a mut W,
     clock: &'a C,
     since: Option<Instant>,
+    /// How many seconds may pass, if that has a limit.
+    limit: Option<u32>,
+    /// In which second a flush fails next, if the time has a limit.
+    due: u64,
+    /// Whether a line is open that has no seconds yet.
+    is_open: bool,
 }
 
 impl<'a, W: Write, C: Clock> Timed<'a, W, C> {
     /// Its seconds begin now.
-    pub fn new(writer: &'a mut W, clock: &'a C) -> Timed<'a, W, C> {
+    pub fn new(writer: &'a mut W, clock: &'a C, limit: Option<u32>) -> Timed<'a, W, C> {
         let since = Instant::now(clock).ok();
+        let due = match limit {
+            Some(seconds) => u64::from(seconds),
+            None => u64::MAX,
+        };
         Timed {
             writer,
             clock,
             since,
+            limit,
+            due,
+            is_open: false,
         }
     }
 
@@ -32,18 +48,39 @@ impl<'a, W: Write, C: Clock> Timed<'a, W, C> {
             Err(_) => None,
         }
     }
+
+    /// Appends the seconds to an open line. Errors of the writer are ignored.
+    fn put_seconds(&mut self, seconds: u64) {
+        if self.is_open {
+            self.is_open = false;
+            if seconds > 0 {
+                let _ = write!(self.writer, ", {seconds} s");
+            }
+            let _ = self.writer.flush();
+        }
+    }
 }
 
 impl<W: Write, C: Clock> Write for Timed<'_, W, C> {
     fn write(&mut self, buf: &[u8]) -> io::Result<usize> {
+        if let [.., last] = buf {
+            self.is_open = *last != b'\n' && *last != b'\r';
+        }
         self.writer.write(buf)
     }
 
     fn flush(&mut self) -> io::Result<()> {
-        match self.seconds() {
-            Some(0) | None => {}
-            Some(seconds) => write!(self.writer, ", {seconds} s")?,
+        if !self.is_open && self.limit.is_none() {
+            return Ok(());
         }
-        self.writer.flush()
+        let seconds = self.seconds().unwrap_or(0);
+        self.put_seconds(seconds);
+        if let Some(limit) = self.limit {
+            if seconds >= self.due {
+                self.due = seconds.saturating_add(u64::from(limit.max(1)));
+                return Err(io::Error::from(ErrorKind::TimedOut));
+            }
+        }
+        Ok(())
     }
 }

@@ -219,6 +219,38 @@ fn rows() -> &'static [Row] {
             false,
             (0, b"as expected\n", b""),
         ),
+        // a search may have no time: it ends after the turns of its first state, and so does a range
+        (
+            "txc outcomes a.c --threads 2..3 --time 0",
+            Ok(ADDS),
+            NONE,
+            true,
+            (
+                4,
+                b"== outcomes: 0, stuck: 0, states: 3, threads: 2, stopped at the time\n",
+                b"txc: --time SECONDS is how long the search may take, and as long again the list\n",
+            ),
+        ),
+        (
+            "txc outcomes a.c --time 0 --always p",
+            Ok(
+                b"int x; int p(void) { return 1; } void worker(int self) { __transaction_atomic { x = 1; } }",
+            ),
+            NONE,
+            false,
+            (
+                4,
+                b"== open p: states 3, threads: 2, stopped at the time\n",
+                b"",
+            ),
+        ),
+        (
+            "txc outcomes a.c --time 0 --refines s.txt",
+            Ok(ADDS),
+            Ok(ADDS),
+            false,
+            (4, b"", b"txc: a.c: stopped at the time\n"),
+        ),
         // numbers stand in place of names, of name tokens alone
         (
             "txc source a.c --order 0 -D N=-3 -D W=7",

@@ -2,6 +2,7 @@
 
 use crate::all_orders::MANY;
 use command::Format;
+use report::WalkEnd;
 use serving::{Detail, Teller, Timed, list_outcomes};
 use std::alloc::Global;
 use std::cell::Cell;
@@ -45,7 +46,7 @@ impl Clock for Broken {
 /// Whether this is told of a walk over more than 1,000 states and fewer than 2,000, before the line is taken away.
 fn is_told<C: Clock>(alloc: Global, clock: &C, line: &[u8]) -> bool {
     let mut told = Vec::new(alloc);
-    let mut timed = Timed::new(&mut told, clock);
+    let mut timed = Timed::new(&mut told, clock, None);
     let detail = Detail::of("a.c", false, Format::Plain, true);
     let mut teller = Teller::new(&mut timed, detail);
     let found = list_outcomes(alloc, MANY, 2, 100000, 10000, u64::MAX, &mut teller);
@@ -82,4 +83,40 @@ fn no_second_is_told_before_one_has_passed(rt: HostRuntime) {
 #[test]
 fn no_seconds_are_told_without_a_clock(rt: HostRuntime) {
     assert!(rt; is_told(rt.alloc(), &Broken, b"\rtxc: 1000 states"));
+}
+
+/// How many states are found, how many outcomes are listed, and what stops, if the search may take so many seconds.
+fn found_within<C: Clock>(alloc: Global, clock: &C, seconds: u32) -> Option<(u64, usize, WalkEnd)> {
+    let mut told = Vec::new(alloc);
+    let mut timed = Timed::new(&mut told, clock, Some(seconds));
+    let detail = Detail::of("a.c", false, Format::Plain, false);
+    let mut teller = Teller::new(&mut timed, detail);
+    match list_outcomes(alloc, MANY, 2, 100000, 10000, u64::MAX, &mut teller) {
+        Ok(found) => Some((found.states, found.outcomes.len(), found.end)),
+        Err(_) => None,
+    }
+}
+
+/// A search is stopped once its seconds have passed, and the outcomes of the states that it found are listed.
+#[test]
+fn a_search_has_a_time_limit(rt: HostRuntime) {
+    let each_second = Ticking {
+        now: Cell::new(70),
+        step: 1,
+    };
+    let found = found_within(rt.alloc(), &each_second, 40);
+    assert!(rt; matches!(found, Some((_, 1.., WalkEnd::AtTime))));
+    let few = Ticking {
+        now: Cell::new(70),
+        step: 0,
+    };
+    let found = found_within(rt.alloc(), &few, 1);
+    assert!(rt; matches!(found, Some((1001.., 1.., WalkEnd::Whole))));
+}
+
+/// Without a clock no time passes.
+#[test]
+fn a_search_ends_without_a_clock(rt: HostRuntime) {
+    let found = found_within(rt.alloc(), &Broken, 1);
+    assert!(rt; matches!(found, Some((1001.., 1.., WalkEnd::Whole))));
 }
