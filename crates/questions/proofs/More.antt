@@ -1,5 +1,5 @@
 -- One line more, and words that are cut.
-use Rattle.std.proofs.Common.{◌≡◌, ◌∙◌, ◌⊎◌, inl, inr, ◌+◌, ◌-◌, ◌<◌, ℕ, suc, List, [], ◌∷◌, ◌++◌, Bor, get_or, length, map, take, refl, sym, ap, subst, arith}
+use Rattle.std.proofs.Common.{◌≡◌, ◌∙◌, ◌⊎◌, inl, inr, ◌+◌, ◌-◌, ◌<◌, ℕ, List, [], ◌∷◌, ◌++◌, Bor, get_or, length, map, take, refl, sym, ap, subst, arith}
 use Rattle.std.proofs.lemmas.List.{append-nil, append_assoc, length-map, length-take-le, map_more, take-map}
 use Rattle.questions.specs.Questions.{Text, asking, expected_by, expected_of, one_of_line, questions_from, without_expected, without_last, words_of}
 use Rattle.questions.specs.declared.expected.Expected.{Expected}

@@ -1,7 +1,7 @@
 -- The questions of a source, and the answers that they expect.
 use Rattle.std.specs.Prelude.{◌+◌, ◌++◌, ◌==◌, ◌||◌, ◌&&◌, ℕ, Bool, List, [], ◌∷◌, Option, Some, None, codes, filter, length, not, take}
 use Rattle.std.specs.Prelude.{◌-◌, if◌then◌else◌}
-use Rattle.std.specs.List.{slice_get, slice_split}
+use Rattle.std.specs.List.{slice_split}
 use Rattle.std.specs.Str.{bytes_eq}
 use Rattle.questions.specs.declared.expected.Expected.{Expected}
 use Rattle.questions.specs.declared.expected.Expected.TheVariants.{Holds, Fails, Traps, Stuck}

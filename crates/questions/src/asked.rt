@@ -102,7 +102,7 @@ fn question_of<'t>(
 
 /// Adds a question, if there is one.
 fn add<'t>(questions: &mut Vec<Question<'t>>, found: Option<Question<'t>>) -> Result<(), AllocError>
-    ensures { OnOk result (map pair_of questions.new.items ≡ map pair_of questions.old.items ++ pairs_of found) }
+    ensures { OnOk result (map pair_of questions.new.items ≡ map pair_of questions.old.items ++ pairs_of found.entry) }
 {
     if let Some(question) = found {
         questions.push(question)?;
