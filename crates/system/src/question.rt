@@ -69,6 +69,17 @@ pub(crate) struct QuestionAnswer {
     pub(crate) told: Notes,
 }
 
+impl QuestionAnswer {
+    /// What was found, or else what was told.
+    pub(crate) fn notes(&self) -> &[String] {
+        if self.found.notes().is_empty() {
+            self.told.notes()
+        } else {
+            self.found.notes()
+        }
+    }
+}
+
 /// Answers what a question asks of a source.
 pub(crate) fn answer_question<H: Threads + Wait + Clock + Sync, F: Files>(
     rt: &H,

@@ -184,11 +184,6 @@ fn test_question<H: Threads + Wait + Clock + Sync, F: Files, W: Write>(
     };
     let answer = answer_question(rt, alloc, &asked, source);
     let verdict = judge(expected, answer.status, answer.found.has_stuck());
-    let notes = if answer.found.notes().is_empty() {
-        answer.told.notes()
-    } else {
-        answer.found.notes()
-    };
     let answered = Answered {
         file: source.name,
         line: question.line,
@@ -198,7 +193,7 @@ fn test_question<H: Threads + Wait + Clock + Sync, F: Files, W: Write>(
         status: answer.status,
         verdict,
         milliseconds: milliseconds(rt, since),
-        notes,
+        notes: answer.notes(),
     };
     report_answer(alloc, &answered, format, out)?;
     Ok(verdict)
