@@ -17,8 +17,8 @@ _txc() {
                     run) words='--verbose --format --threads --budget --counts --memory --help' ;;
                     replay) words='--verbose --format --threads --schedule --seed --steps --order --timeline --picture --from --print-schedule --help' ;;
                     source) words='--verbose --format --threads --order --ticks --help' ;;
-                    trace) words='--verbose --format --threads --order --property --help' ;;
-                    outcomes) words='--verbose --format --threads --steps --limit --memory --time --refines --expect --always --final --keep-going --help' ;;
+                    trace) words='--verbose --format --threads --order --property --full --help' ;;
+                    outcomes) words='--verbose --format --threads --steps --limit --memory --time --refines --expect --always --final --keep-going --trace --help' ;;
                     certify) words='--verbose --format --threads --order-file --report --ticks --help' ;;
                     test) words='--format --list --help' ;;
                     explain) words='--help' ;;

@@ -52,6 +52,7 @@ complete -c txc -n '__fish_seen_subcommand_from trace' -l format -x -a 'short js
 complete -c txc -n '__fish_seen_subcommand_from trace' -l threads -x -d 'Number of threads, 1 to 64 [default: 2]'
 complete -c txc -n '__fish_seen_subcommand_from trace' -l order -x -d 'Order of transactions: thread numbers joined by commas, as 0,1,0, or an empty word'
 complete -c txc -n '__fish_seen_subcommand_from trace' -l property -x -d 'Function `int NAME(void)` of FILE to evaluate after the last turn'
+complete -c txc -n '__fish_seen_subcommand_from trace' -l full -d 'Show a block of lines for each turn, not a line of a table [default if the table is wide]'
 complete -c txc -n '__fish_seen_subcommand_from trace' -l help -d 'Print help'
 complete -c txc -n __fish_use_subcommand -a outcomes -d 'List every possible outcome of a program, each with an order of transactions that leads to it, and deadlocks'
 complete -c txc -n '__fish_seen_subcommand_from outcomes' -F
@@ -67,6 +68,7 @@ complete -c txc -n '__fish_seen_subcommand_from outcomes' -l expect -r -F -d 'Ch
 complete -c txc -n '__fish_seen_subcommand_from outcomes' -l always -x -d 'Check that functions `int NAME(void)` of FILE return nonzero in every state, in place of the list; names are joined by commas'
 complete -c txc -n '__fish_seen_subcommand_from outcomes' -l final -x -d 'Check that functions return nonzero in every outcome, in place of the list'
 complete -c txc -n '__fish_seen_subcommand_from outcomes' -l keep-going -d 'Continue the search after each function has failed, and list all deadlocks'
+complete -c txc -n '__fish_seen_subcommand_from outcomes' -l trace -d 'Show how the first failure, deadlock and trap come about, as `txc trace` does, on standard error [default on a terminal]'
 complete -c txc -n '__fish_seen_subcommand_from outcomes' -l help -d 'Print help'
 complete -c txc -n __fish_use_subcommand -a certify -d 'Check that a report is what the source prints in a given order of transactions, byte for byte'
 complete -c txc -n '__fish_seen_subcommand_from certify' -F

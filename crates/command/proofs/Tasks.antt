@@ -19,8 +19,8 @@ no_replay given none (Picture threads from steps) is = none steps is.2
 no_replay given none (PrintSchedule threads seed count) is = none (Seed seed count) is.2
 no_replay given none (PrintOrder threads order) is = none (Order order) is.2
 no_replay given none (Source threads order ticks) is = let e : 114 ≡ 115 = ap (λ l. slice_index l 0) is.0 in absurd (omega (arith, e))
-no_replay given none (Trace threads order property) is = let e : 114 ≡ 116 = ap (λ l. slice_index l 0) is.0 in absurd (omega (arith, e))
-no_replay given none (Outcomes threads steps limit memory time) is = let e : 114 ≡ 111 = ap (λ l. slice_index l 0) is.0 in absurd (omega (arith, e))
+no_replay given none (Trace threads order property in_full) is = let e : 114 ≡ 116 = ap (λ l. slice_index l 0) is.0 in absurd (omega (arith, e))
+no_replay given none (Outcomes threads steps limit memory time traces) is = let e : 114 ≡ 111 = ap (λ l. slice_index l 0) is.0 in absurd (omega (arith, e))
 
 -- no first access to be drawn, no picture
 pub no_drawn : (given : List Row) → ((n : ℕ) → IsFirstDrawn given n → ⊥) → IsFlagged given (codes "picture") → AreNoTask (codes "replay") given
@@ -33,8 +33,8 @@ no_drawn given none drawn (Picture threads from steps) is = none from is.4
 no_drawn given none drawn (PrintSchedule threads seed count) is = let e : false ≡ true = is.3.picture_is.1 drawn in cc
 no_drawn given none drawn (PrintOrder threads order) is = let e : false ≡ true = is.3.picture_is.1 drawn in cc
 no_drawn given none drawn (Source threads order ticks) is = let e : 114 ≡ 115 = ap (λ l. slice_index l 0) is.0 in absurd (omega (arith, e))
-no_drawn given none drawn (Trace threads order property) is = let e : 114 ≡ 116 = ap (λ l. slice_index l 0) is.0 in absurd (omega (arith, e))
-no_drawn given none drawn (Outcomes threads steps limit memory time) is = let e : 114 ≡ 111 = ap (λ l. slice_index l 0) is.0 in absurd (omega (arith, e))
+no_drawn given none drawn (Trace threads order property in_full) is = let e : 114 ≡ 116 = ap (λ l. slice_index l 0) is.0 in absurd (omega (arith, e))
+no_drawn given none drawn (Outcomes threads steps limit memory time traces) is = let e : 114 ≡ 111 = ap (λ l. slice_index l 0) is.0 in absurd (omega (arith, e))
 
 -- an order that is given makes other steps none
 pub no_ordered : (given : List Row) (text : Text) → first_of (codes "order") given ≡ Some text → ((ns : List ℕ) → IsOrderGiven given ns → (n : ℕ) → AreCounted given n → ⊥) → (steps : Steps) → AreSteps given steps → ⊥
@@ -53,8 +53,8 @@ no_source given none (Picture threads from steps) is = let e : 115 ≡ 114 = ap 
 no_source given none (PrintSchedule threads seed count) is = let e : 115 ≡ 114 = ap (λ l. slice_index l 0) is.0 in absurd (omega (arith, e))
 no_source given none (PrintOrder threads order) is = let e : 115 ≡ 114 = ap (λ l. slice_index l 0) is.0 in absurd (omega (arith, e))
 no_source given none (Source threads order ticks) is = none order.items is.2
-no_source given none (Trace threads order property) is = let e : 115 ≡ 116 = ap (λ l. slice_index l 0) is.0 in absurd (omega (arith, e))
-no_source given none (Outcomes threads steps limit memory time) is = let e : 115 ≡ 111 = ap (λ l. slice_index l 0) is.0 in absurd (omega (arith, e))
+no_source given none (Trace threads order property in_full) is = let e : 115 ≡ 116 = ap (λ l. slice_index l 0) is.0 in absurd (omega (arith, e))
+no_source given none (Outcomes threads steps limit memory time traces) is = let e : 115 ≡ 111 = ap (λ l. slice_index l 0) is.0 in absurd (omega (arith, e))
 
 -- no number of threads, no outcomes
 pub no_outcomes : (given : List Row) → ((first last : ℕ) → AreThreadsExplored given first last → ⊥) → AreNoTask (codes "outcomes") given
@@ -67,8 +67,8 @@ no_outcomes given none (Picture threads from steps) is = let e : 111 ≡ 114 = a
 no_outcomes given none (PrintSchedule threads seed count) is = let e : 111 ≡ 114 = ap (λ l. slice_index l 0) is.0 in absurd (omega (arith, e))
 no_outcomes given none (PrintOrder threads order) is = let e : 111 ≡ 114 = ap (λ l. slice_index l 0) is.0 in absurd (omega (arith, e))
 no_outcomes given none (Source threads order ticks) is = let e : 111 ≡ 115 = ap (λ l. slice_index l 0) is.0 in absurd (omega (arith, e))
-no_outcomes given none (Trace threads order property) is = let e : 111 ≡ 116 = ap (λ l. slice_index l 0) is.0 in absurd (omega (arith, e))
-no_outcomes given none (Outcomes threads steps limit memory time) is = none threads.first threads.last is.1
+no_outcomes given none (Trace threads order property in_full) is = let e : 111 ≡ 116 = ap (λ l. slice_index l 0) is.0 in absurd (omega (arith, e))
+no_outcomes given none (Outcomes threads steps limit memory time traces) is = none threads.first threads.last is.1
 
 -- no order, no trace
 pub no_trace : (given : List Row) → ((order : List ℕ) → IsOrderGiven given order → ⊥) → AreNoTask (codes "trace") given
@@ -81,8 +81,8 @@ no_trace given none (Picture threads from steps) is = let e : 116 ≡ 114 = ap (
 no_trace given none (PrintSchedule threads seed count) is = let e : 116 ≡ 114 = ap (λ l. slice_index l 0) is.0 in absurd (omega (arith, e))
 no_trace given none (PrintOrder threads order) is = let e : 116 ≡ 114 = ap (λ l. slice_index l 0) is.0 in absurd (omega (arith, e))
 no_trace given none (Source threads order ticks) is = let e : 116 ≡ 115 = ap (λ l. slice_index l 0) is.0 in absurd (omega (arith, e))
-no_trace given none (Trace threads order property) is = none order.items is.2
-no_trace given none (Outcomes threads steps limit memory time) is = let e : 116 ≡ 111 = ap (λ l. slice_index l 0) is.0 in absurd (omega (arith, e))
+no_trace given none (Trace threads order property in_full) is = none order.items is.2
+no_trace given none (Outcomes threads steps limit memory time traces) is = let e : 116 ≡ 111 = ap (λ l. slice_index l 0) is.0 in absurd (omega (arith, e))
 
 -- a text that lists no threads is no order
 pub no_order : (given : List Row) (taken text : Text) → ((order : List ℕ) → IsOrder taken order → ⊥) → taken ≡ text → first_of (codes "order") given ≡ Some text → (order : List ℕ) → IsOrderGiven given order → ⊥

@@ -199,15 +199,16 @@ IsTask name given (PrintOrder threads order) = (name ≡ codes "replay") × AreT
 IsTask name given (Source threads order ticks) = (name ≡ codes "source") × AreThreadsGiven given threads
     × IsOrderGiven given order.items
     × IsNumberInRange given (codes "ticks") 100000 0 1000000 ticks
-IsTask name given (Trace threads order property) = (name ≡ codes "trace")
+IsTask name given (Trace threads order property in_full) = (name ≡ codes "trace")
     × IsNumberInRange given (codes "threads") 2 1 64 threads
     × IsOrderGiven given order.items × (option_map string_bytes property ≡ first_of (codes "property") given)
-IsTask name given (Outcomes threads steps limit memory time) = (name ≡ codes "outcomes")
+    × (IsTrue in_full ↔ IsFlagged given (codes "full"))
+IsTask name given (Outcomes threads steps limit memory time traces) = (name ≡ codes "outcomes")
     × AreThreadsExplored given threads.first threads.last
     × IsNumberInRange given (codes "steps") 1000000 0 4294967295 steps
     × IsNumberInRange given (codes "limit") 1000000 0 4294967295 limit
     × IsNumberInRange given (codes "memory") 1024 0 4294967295 memory × IsNumberRead (one_of (codes "time") given) time
-    × AreUncompared given × (are_asked given ≡ false)
+    × AreUncompared given × (are_asked given ≡ false) × (IsTrue traces ↔ IsFlagged given (codes "trace"))
 
 -- the properties to check: functions that must hold in every state, and those that must hold in every outcome
 pub record AreQuestions (given : List Row) (questions : Questions) : Type 0 where
@@ -219,6 +220,7 @@ pub record AreQuestions (given : List Row) (questions : Questions) : Type 0 wher
   pub always : option_map string_bytes questions.always ≡ first_of (codes "always") given
   pub last : option_map string_bytes questions.last ≡ first_of (codes "final") given
   pub keeps_going : IsTrue questions.keeps_going ↔ IsFlagged given (codes "keep-going")
+  pub traces : IsTrue questions.traces ↔ IsFlagged given (codes "trace")
 
 -- `any` is given in place of a number of threads
 pub record IsAnyNumber (given : List Row) : Type 0 where

@@ -78,7 +78,7 @@ source_app =
 abbrev pub trace_app : App
 trace_app =
     let threads = with_rule (file_app (codes "trace")) (text_rule (codes "threads")) in
-    with_rule (with_rule threads order_rule) (text_rule (codes "property"))
+    with_rule (with_rule (with_rule threads order_rule) (text_rule (codes "property"))) (flag_rule (codes "full"))
 
 abbrev pub outcome_states_app : App
 outcome_states_app =
@@ -90,7 +90,8 @@ outcome_states_app =
 abbrev pub outcomes_app : App
 outcomes_app =
     let always = with_rule outcome_states_app (text_rule (codes "always")) in
-    with_rule (with_rule always (text_rule (codes "final"))) (flag_rule (codes "keep-going"))
+    let last = with_rule always (text_rule (codes "final")) in
+    with_rule (with_rule last (flag_rule (codes "keep-going"))) (flag_rule (codes "trace"))
 
 abbrev pub certify_app : App
 certify_app =

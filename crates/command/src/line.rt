@@ -378,7 +378,13 @@ fn trace<'a>(alloc: Global) -> Result<Command<'a>, AllocError>
         "NAME",
         "Function `int NAME(void)` of FILE to evaluate after the last turn",
     );
-    with(command, property)
+    let command = with(command, property);
+    let full = flag(
+        alloc,
+        "full",
+        "Show a block of lines for each turn, not a line of a table [default if the table is wide]",
+    );
+    with(command, full)
 }
 
 /// The command that lists all outcomes, with its limits and the options that compare outcomes.
@@ -460,7 +466,13 @@ fn outcomes<'a>(alloc: Global) -> Result<Command<'a>, AllocError>
         "keep-going",
         "Continue the search after each function has failed, and list all deadlocks",
     );
-    with(command, keep_going)
+    let command = with(command, keep_going);
+    let trace = flag(
+        alloc,
+        "trace",
+        "Show how the first failure, deadlock and trap come about, as `txc trace` does, on standard error [default on a terminal]",
+    );
+    with(command, trace)
 }
 
 /// The command that certifies a report.

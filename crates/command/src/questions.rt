@@ -58,5 +58,6 @@ pub(crate) fn questions(alloc: Global, given: &ArgMatches<'_>) -> Result<Questio
         always: text_kept(alloc, given, "always")?,
         last: text_kept(alloc, given, "final")?,
         keeps_going: flag_given(given, "keep-going"),
+        traces: flag_given(given, "trace"),
     })
 }

@@ -155,6 +155,8 @@ pub struct Questions {
     pub last: Option<String>,
     /// Whether the search continues once each function has failed.
     pub keeps_going: bool,
+    /// Whether the trace of the first order after which a function fails is reported, and of the first that is stuck.
+    pub traces: bool,
 }
 
 /// The functions that must hold in every state that any number of threads from 1 to 64 reaches, over at most so many
@@ -243,6 +245,8 @@ pub enum Task {
         threads: u32,
         order: Vec<u32>,
         property: Option<String>,
+        /// Whether each turn is shown in full.
+        in_full: bool,
     },
     /// Lists the outcomes of 1 to 64 threads in all orders, over at most so many states. In a turn a thread makes at
     /// most so many steps of its code, and states and list take about so many MB of memory. The search takes at most
@@ -253,6 +257,8 @@ pub enum Task {
         limit: u32,
         memory: u32,
         time: Option<u32>,
+        /// Whether the trace of the first order that is stuck is reported, and of the first in which a thread traps.
+        traces: bool,
     },
 }
 

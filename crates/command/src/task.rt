@@ -212,6 +212,7 @@ fn trace(alloc: Global, given: &ArgMatches<'_>) -> Result<Task, UsageFault>
         threads,
         order: order_given(alloc, given)?,
         property: text_kept(alloc, given, "property")?,
+        in_full: flag_given(given, "full"),
     })
 }
 
@@ -228,6 +229,7 @@ fn outcomes(alloc: Global, given: &ArgMatches<'_>) -> Result<Task, UsageFault>
         limit: number(alloc, given, "limit", 1000000, 0, u32::MAX)?,
         memory: number(alloc, given, "memory", 1024, 0, u32::MAX)?,
         time: number_given(alloc, given, "time", 0, u32::MAX)?,
+        traces: flag_given(given, "trace"),
     })
 }
 

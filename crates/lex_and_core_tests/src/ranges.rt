@@ -13,7 +13,7 @@ fn ranges() -> &'static [Row] {
         ),
         (
             "txc|outcomes|a.c|--threads=1..64|--always=p",
-            br#"Ok(Ask { file: "a.c", verbose: false, format: Plain, questions: Questions { threads: ThreadRange { first: 1, last: 64 }, steps: 1000000, limit: 1000000, memory: 1024, time: None, always: Some("p"), last: None, keeps_going: false } })"#,
+            br#"Ok(Ask { file: "a.c", verbose: false, format: Plain, questions: Questions { threads: ThreadRange { first: 1, last: 64 }, steps: 1000000, limit: 1000000, memory: 1024, time: None, always: Some("p"), last: None, keeps_going: false, traces: false } })"#,
         ),
         (
             "txc|outcomes|a.c|--threads=03..3|--refines=b.c",

@@ -129,11 +129,11 @@ fn orders() -> &'static [Row] {
     static ROWS: [Row; 8] = [
         (
             "txc|trace|--order|0,1|a.c",
-            br#"Ok(Program { file: "a.c", verbose: false, format: Plain, task: Trace { threads: 2, order: [0, 1], property: None } })"#,
+            br#"Ok(Program { file: "a.c", verbose: false, format: Plain, task: Trace { threads: 2, order: [0, 1], property: None, in_full: false } })"#,
         ),
         (
             "txc|trace|a.c|--threads=3|--order=|--property|p|--verbose",
-            br#"Ok(Program { file: "a.c", verbose: true, format: Plain, task: Trace { threads: 3, order: [], property: Some("p") } })"#,
+            br#"Ok(Program { file: "a.c", verbose: true, format: Plain, task: Trace { threads: 3, order: [], property: Some("p"), in_full: false } })"#,
         ),
         (
             "txc|source|--order||--threads|2|a.c",
@@ -173,15 +173,15 @@ fn outcomes() -> &'static [Row] {
     static ROWS: [Row; 13] = [
         (
             "txc|outcomes|a.c",
-            br#"Ok(Program { file: "a.c", verbose: false, format: Plain, task: Outcomes { threads: ThreadRange { first: 2, last: 2 }, steps: 1000000, limit: 1000000, memory: 1024, time: None } })"#,
+            br#"Ok(Program { file: "a.c", verbose: false, format: Plain, task: Outcomes { threads: ThreadRange { first: 2, last: 2 }, steps: 1000000, limit: 1000000, memory: 1024, time: None, traces: false } })"#,
         ),
         (
             "txc|outcomes|--threads=64|--steps=4294967295|--limit=4294967295|a.c|--verbose",
-            br#"Ok(Program { file: "a.c", verbose: true, format: Plain, task: Outcomes { threads: ThreadRange { first: 64, last: 64 }, steps: 4294967295, limit: 4294967295, memory: 1024, time: None } })"#,
+            br#"Ok(Program { file: "a.c", verbose: true, format: Plain, task: Outcomes { threads: ThreadRange { first: 64, last: 64 }, steps: 4294967295, limit: 4294967295, memory: 1024, time: None, traces: false } })"#,
         ),
         (
             "txc|outcomes|a.c|--limit|0|--steps|0|--threads|2",
-            br#"Ok(Program { file: "a.c", verbose: false, format: Plain, task: Outcomes { threads: ThreadRange { first: 2, last: 2 }, steps: 0, limit: 0, memory: 1024, time: None } })"#,
+            br#"Ok(Program { file: "a.c", verbose: false, format: Plain, task: Outcomes { threads: ThreadRange { first: 2, last: 2 }, steps: 0, limit: 0, memory: 1024, time: None, traces: false } })"#,
         ),
         (
             "txc|outcomes|--threads=0|a.c",
@@ -206,15 +206,15 @@ fn outcomes() -> &'static [Row] {
         ),
         (
             "txc|outcomes|--memory|0|a.c",
-            br#"Ok(Program { file: "a.c", verbose: false, format: Plain, task: Outcomes { threads: ThreadRange { first: 2, last: 2 }, steps: 1000000, limit: 1000000, memory: 0, time: None } })"#,
+            br#"Ok(Program { file: "a.c", verbose: false, format: Plain, task: Outcomes { threads: ThreadRange { first: 2, last: 2 }, steps: 1000000, limit: 1000000, memory: 0, time: None, traces: false } })"#,
         ),
         (
             "txc|outcomes|--time=4294967295|a.c",
-            br#"Ok(Program { file: "a.c", verbose: false, format: Plain, task: Outcomes { threads: ThreadRange { first: 2, last: 2 }, steps: 1000000, limit: 1000000, memory: 1024, time: Some(4294967295) } })"#,
+            br#"Ok(Program { file: "a.c", verbose: false, format: Plain, task: Outcomes { threads: ThreadRange { first: 2, last: 2 }, steps: 1000000, limit: 1000000, memory: 1024, time: Some(4294967295), traces: false } })"#,
         ),
         (
             "txc|outcomes|--time|0|--always|p|a.c",
-            br#"Ok(Ask { file: "a.c", verbose: false, format: Plain, questions: Questions { threads: ThreadRange { first: 2, last: 2 }, steps: 1000000, limit: 1000000, memory: 1024, time: Some(0), always: Some("p"), last: None, keeps_going: false } })"#,
+            br#"Ok(Ask { file: "a.c", verbose: false, format: Plain, questions: Questions { threads: ThreadRange { first: 2, last: 2 }, steps: 1000000, limit: 1000000, memory: 1024, time: Some(0), always: Some("p"), last: None, keeps_going: false, traces: false } })"#,
         ),
         (
             "txc|outcomes|--time=1s|a.c",
@@ -222,7 +222,7 @@ fn outcomes() -> &'static [Row] {
         ),
         (
             "txc|outcomes|--limit=4294967295|--steps=7|a.c",
-            br#"Ok(Program { file: "a.c", verbose: false, format: Plain, task: Outcomes { threads: ThreadRange { first: 2, last: 2 }, steps: 7, limit: 4294967295, memory: 1024, time: None } })"#,
+            br#"Ok(Program { file: "a.c", verbose: false, format: Plain, task: Outcomes { threads: ThreadRange { first: 2, last: 2 }, steps: 7, limit: 4294967295, memory: 1024, time: None, traces: false } })"#,
         ),
     ];
     &ROWS
@@ -724,23 +724,23 @@ fn questions() -> &'static [Row] {
     static ROWS: [Row; 7] = [
         (
             "txc|outcomes|a.c|--always|p",
-            br#"Ok(Ask { file: "a.c", verbose: false, format: Plain, questions: Questions { threads: ThreadRange { first: 2, last: 2 }, steps: 1000000, limit: 1000000, memory: 1024, time: None, always: Some("p"), last: None, keeps_going: false } })"#,
+            br#"Ok(Ask { file: "a.c", verbose: false, format: Plain, questions: Questions { threads: ThreadRange { first: 2, last: 2 }, steps: 1000000, limit: 1000000, memory: 1024, time: None, always: Some("p"), last: None, keeps_going: false, traces: false } })"#,
         ),
         (
             "txc|outcomes|--final=p,q|--threads=3|--steps=0|--limit=7|a.c|--verbose|--format=json",
-            br#"Ok(Ask { file: "a.c", verbose: true, format: Json, questions: Questions { threads: ThreadRange { first: 3, last: 3 }, steps: 0, limit: 7, memory: 1024, time: None, always: None, last: Some("p,q"), keeps_going: false } })"#,
+            br#"Ok(Ask { file: "a.c", verbose: true, format: Json, questions: Questions { threads: ThreadRange { first: 3, last: 3 }, steps: 0, limit: 7, memory: 1024, time: None, always: None, last: Some("p,q"), keeps_going: false, traces: false } })"#,
         ),
         (
             "txc|outcomes|a.c|--keep-going|--always=p",
-            br#"Ok(Ask { file: "a.c", verbose: false, format: Plain, questions: Questions { threads: ThreadRange { first: 2, last: 2 }, steps: 1000000, limit: 1000000, memory: 1024, time: None, always: Some("p"), last: None, keeps_going: true } })"#,
+            br#"Ok(Ask { file: "a.c", verbose: false, format: Plain, questions: Questions { threads: ThreadRange { first: 2, last: 2 }, steps: 1000000, limit: 1000000, memory: 1024, time: None, always: Some("p"), last: None, keeps_going: true, traces: false } })"#,
         ),
         (
             "txc|outcomes|-|--final=|--always=p,p",
-            br#"Ok(Ask { file: "-", verbose: false, format: Plain, questions: Questions { threads: ThreadRange { first: 2, last: 2 }, steps: 1000000, limit: 1000000, memory: 1024, time: None, always: Some("p,p"), last: Some(""), keeps_going: false } })"#,
+            br#"Ok(Ask { file: "-", verbose: false, format: Plain, questions: Questions { threads: ThreadRange { first: 2, last: 2 }, steps: 1000000, limit: 1000000, memory: 1024, time: None, always: Some("p,p"), last: Some(""), keeps_going: false, traces: false } })"#,
         ),
         (
             "txc|outcomes|a.c|--limit=9",
-            br#"Ok(Program { file: "a.c", verbose: false, format: Plain, task: Outcomes { threads: ThreadRange { first: 2, last: 2 }, steps: 1000000, limit: 9, memory: 1024, time: None } })"#,
+            br#"Ok(Program { file: "a.c", verbose: false, format: Plain, task: Outcomes { threads: ThreadRange { first: 2, last: 2 }, steps: 1000000, limit: 9, memory: 1024, time: None, traces: false } })"#,
         ),
         (
             "txc|outcomes|a.c|--always=p|--threads=65",
@@ -952,7 +952,7 @@ fn definitions() -> &'static [Row] {
         ),
         (
             "txc|trace|a.c|--order||-D|N=threads",
-            br#"Ok([Definition { name: "N", number: Number { is_negative: false, magnitude: 2 } }], Program { file: "a.c", verbose: false, format: Plain, task: Trace { threads: 2, order: [], property: None } })"#,
+            br#"Ok([Definition { name: "N", number: Number { is_negative: false, magnitude: 2 } }], Program { file: "a.c", verbose: false, format: Plain, task: Trace { threads: 2, order: [], property: None, in_full: false } })"#,
         ),
         // a range of numbers of threads is no number
         (

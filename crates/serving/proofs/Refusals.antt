@@ -56,8 +56,8 @@ refused_task (Picture threads from steps) text is = refused_text text is
 refused_task (PrintSchedule threads seed count) text is = refused_text text is
 refused_task (PrintOrder threads order) text is = refused_text text is
 refused_task (Source threads order ticks) text is = is
-refused_task (Trace threads order property) text is = refused_text text is
-refused_task (Outcomes threads steps limit memory time) text is = refused_text text is
+refused_task (Trace threads order property in_full) text is = refused_text text is
+refused_task (Outcomes threads steps limit memory time traces) text is = refused_text text is
 
 -- a file that is too long is refused
 pub long_refused : (known : Option (List ℕ)) → IfSome known (λ bytes. MOST_BYTES < length bytes) → IfSome known (λ bytes. IsRefused bytes)
@@ -79,8 +79,8 @@ nothing_printed (Picture threads from steps) schedule text status old new zero t
 nothing_printed (PrintSchedule threads seed count) schedule text status old new zero three = λ e. absurd (zero e)
 nothing_printed (PrintOrder threads order) schedule text status old new zero three = λ e. absurd (zero e)
 nothing_printed (Source threads order ticks) schedule text status old new zero three = λ e. absurd (neither status zero three e)
-nothing_printed (Trace threads order property) schedule text status old new zero three = λ e. absurd (neither status zero three e)
-nothing_printed (Outcomes threads steps limit memory time) schedule text status old new zero three =
+nothing_printed (Trace threads order property in_full) schedule text status old new zero three = λ e. absurd (neither status zero three e)
+nothing_printed (Outcomes threads steps limit memory time traces) schedule text status old new zero three =
     stops (λ n s o w. PrintsOutcomes n text s o w) (threads.last - threads.first) threads.first status old new zero (λ e. absurd (neither status zero three e))
 
 -- what the status 1 says there

@@ -46,9 +46,9 @@ Answers (PrintOrder threads order) schedule text status old new =
     PrintsOrder threads order.items text status old new
 Answers (Source threads order ticks) schedule text status old new =
     PrintsReport (λ shown. RunsInOrder threads ticks order.items text shown × Accepts text) status old new
-Answers (Trace threads order property) schedule text status old new =
+Answers (Trace threads order property in_full) schedule text status old new =
     PrintsTrace (λ written shown. TracesOrder threads order.items text written shown) status old new
-Answers (Outcomes threads steps limit memory time) schedule text status old new =
+Answers (Outcomes threads steps limit memory time traces) schedule text status old new =
     SaysOfRange (λ n s o w. PrintsOutcomes n text s o w) threads status old new
 
 -- a request, if these are the bytes of the file

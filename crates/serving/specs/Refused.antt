@@ -21,8 +21,8 @@ IsRefusedFor (Picture threads from steps) text = HasNoCode text
 IsRefusedFor (PrintSchedule threads seed count) text = HasNoCode text
 IsRefusedFor (PrintOrder threads order) text = HasNoCode text
 IsRefusedFor (Source threads order ticks) text = IsRefused text
-IsRefusedFor (Trace threads order property) text = HasNoCode text
-IsRefusedFor (Outcomes threads steps limit memory time) text = HasNoCode text
+IsRefusedFor (Trace threads order property in_full) text = HasNoCode text
+IsRefusedFor (Outcomes threads steps limit memory time traces) text = HasNoCode text
 
 -- why a request is refused, if these are the bytes of the file and of what its outcomes are compared with
 abbrev pub IsRequestRefused : Request → (other bytes : Option (List ℕ)) → Type 0

@@ -77,8 +77,8 @@ IsAskedFor (PrintSchedule threads seed count) schedule text written = IsSeedSche
 IsAskedFor (PrintOrder threads order) schedule text written = IsOrderSchedule threads order.items text written
 IsAskedFor (Source threads order ticks) schedule text written =
     IsReportOf (λ shown. RunsInOrder threads ticks order.items text shown × Accepts text) written
-IsAskedFor (Trace threads order property) schedule text written = IsOrderTrace threads order.items text written
-IsAskedFor (Outcomes threads steps limit memory time) schedule text written =
+IsAskedFor (Trace threads order property in_full) schedule text written = IsOrderTrace threads order.items text written
+IsAskedFor (Outcomes threads steps limit memory time traces) schedule text written =
     AreTextsOfRange (λ n list. IsListOfOutcomes n text list) threads written
 
 -- a text is written, or a prefix of it

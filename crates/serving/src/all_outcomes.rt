@@ -18,6 +18,7 @@ ghost use Rattle.serving.specs.inner.Compared.{list_of};
 ghost use Rattle.serving.specs.inner.Serves.{PrintsInTurn, Serves, ServesText};
 
 use crate::listed_ends::tell_listed_ends;
+use crate::listed_traces::tell_listed_traces;
 use crate::print::{ENDED, STOPPED, TRAPPED, has_trapped, print};
 use crate::program::{Compiled, compile};
 use crate::source::OrderFault;
@@ -105,6 +106,7 @@ fn list_of_threads<A: Allocator + Copy, W: Write, E: Write>(
         Ok(found) => {
             let status = print_outcomes(alloc, &found, threads, out, teller.err);
             tell_listed_ends(alloc, text, threads, &found, teller);
+            tell_listed_traces(alloc, text, compiled, threads, &found, teller);
             status
         }
         Err(fault) => teller.refuse_order(fault),

@@ -18,6 +18,7 @@ ghost use Rattle.serving.specs.inner.Serves.{PrintsProperties, PrintsPropertiesI
 use crate::askable::{Unaskable, first_unaskable};
 use crate::files::{Files, text_of};
 use crate::listed_ends::tell_asked_ends;
+use crate::listed_traces::tell_asked_traces;
 use crate::print::{ENDED, REFUTED, STOPPED, UNUSABLE, print};
 use crate::program::{Compiled, compile, unit_of};
 use crate::properties::{Extent, PropertiesFound, properties_in};
@@ -228,6 +229,8 @@ fn ask_names<A: Allocator + Copy, W: Write, E: Write>(
             let status = print_found(alloc, &found, threads, out, teller.err);
             let accepted = &compiled.accepted;
             tell_asked_ends(alloc, text, accepted, threads, &found, teller);
+            let wanted = questions.traces;
+            tell_asked_traces(alloc, text, compiled, threads, &found, wanted, teller);
             status
         }
         Err(fault) => teller.refuse_order(fault),

@@ -306,6 +306,16 @@ pub(crate) fn lines_in_order<A: Allocator + Copy, E: Write>(
     }
 }
 
+/// The lines of an order of whole transactions, if there are any. Nothing is told.
+pub(crate) fn lines_if_any<A: Allocator + Copy>(
+    alloc: A,
+    code: &Code<A>,
+    threads: u32,
+    order: &[u32],
+) -> Option<Vec<Line, A>> {
+    turns(alloc, code, threads, order).ok()
+}
+
 /// The lines of a schedule.
 fn lines_read<A: Allocator + Copy, S: Read + Drop, E: Write>(
     alloc: A,

@@ -22,6 +22,7 @@ mod growth;
 pub mod laws;
 mod listed_bytes;
 mod listed_ends;
+mod listed_traces;
 mod listing;
 mod numbers;
 mod pictures;

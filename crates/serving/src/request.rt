@@ -166,12 +166,14 @@ fn work_alone<A: Allocator + Copy, S: Read + Drop, W: Write, E: Write>(
             threads,
             order,
             property,
+            in_full,
         } => trace(
             alloc,
             text,
             *threads,
             order.as_slice(),
             property.as_deref(),
+            *in_full,
             out,
             teller,
         ),
@@ -180,6 +182,7 @@ fn work_alone<A: Allocator + Copy, S: Read + Drop, W: Write, E: Write>(
             steps,
             limit,
             memory,
+            traces,
             ..
         } => all_outcomes(
             alloc,
@@ -189,7 +192,7 @@ fn work_alone<A: Allocator + Copy, S: Read + Drop, W: Write, E: Write>(
             *limit,
             bytes_of_memory(*memory),
             out,
-            teller,
+            &mut teller.with_traces(*traces),
         ),
     }
 }

@@ -34,6 +34,8 @@ pub struct Detail<'a> {
     pub(crate) format: Format,
     /// Whether `txc check` tells more than was asked for.
     pub(crate) further: bool,
+    /// Whether the traces of what a search finds first are shown.
+    pub(crate) traces: bool,
 }
 
 impl<'a> Detail<'a> {
@@ -56,7 +58,18 @@ impl<'a> Detail<'a> {
                 Format::Plain => is_terminal,
                 Format::Short | Format::Json => false,
             },
+            traces: match format {
+                Format::Plain => is_terminal,
+                Format::Short | Format::Json => false,
+            },
         }
+    }
+
+    /// The same, with the traces of what a search finds first if they are wanted.
+    fn with_traces(self, are_wanted: bool) -> Detail<'a> {
+        let mut detail = self.of_file(self.file);
+        detail.traces = self.traces || are_wanted;
+        detail
     }
 
     /// How faults of another file's program are told.
@@ -68,6 +81,7 @@ impl<'a> Detail<'a> {
             format: self.format,
             further: self.further,
             progress: self.progress,
+            traces: self.traces,
         }
     }
 }
@@ -90,6 +104,14 @@ impl<'a, E: Write> Teller<'a, E> {
 }
 
 impl<E: Write> Teller<'_, E> {
+    /// Tells it there, with the traces of what a search finds first if they are wanted.
+    pub(crate) fn with_traces(&mut self, are_wanted: bool) -> Teller<'_, E> {
+        Teller {
+            err: &mut *self.err,
+            detail: self.detail.with_traces(are_wanted),
+        }
+    }
+
     /// Says why a source is refused.
     pub(crate) fn refuse<A: Allocator + Copy>(
         &mut self,
