@@ -9,7 +9,7 @@ _txc() {
         --always | --budget | --final | --from | --limit | --memory | --order | --property | --seed | --steps | --threads | --ticks | --time) return ;;
         *)
             if ((COMP_CWORD == 1)); then
-                words='check listing run replay source trace outcomes certify test explain --help --version'
+                words='check listing run replay source trace explore outcomes certify test explain --help --version'
             elif [[ $word == -* ]]; then
                 case ${COMP_WORDS[1]} in
                     check) words='--verbose --format --warn --all --help' ;;
@@ -18,6 +18,7 @@ _txc() {
                     replay) words='--verbose --format --threads --schedule --seed --steps --order --timeline --picture --from --print-schedule --help' ;;
                     source) words='--verbose --format --threads --order --ticks --help' ;;
                     trace) words='--verbose --format --threads --order --property --full --help' ;;
+                    explore) words='--verbose --format --threads --order --always --help' ;;
                     outcomes) words='--verbose --format --threads --steps --limit --memory --time --refines --expect --always --final --keep-going --trace --help' ;;
                     certify) words='--verbose --format --threads --order-file --report --ticks --help' ;;
                     test) words='--format --list --help' ;;

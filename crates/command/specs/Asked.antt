@@ -21,7 +21,8 @@ use Rattle.command.specs.declared.request.Request.TheVariants.{Explain, ExplainE
 use Rattle.command.specs.declared.request.Questions.{Questions}
 use Rattle.command.specs.declared.request.Task.{Task}
 use Rattle.command.specs.declared.request.Task.TheVariants.{Check, Listing, Run, Replay, Timeline, Picture}
-use Rattle.command.specs.declared.request.Task.TheVariants.{PrintOrder, PrintSchedule, Source, Trace, Outcomes}
+use Rattle.command.specs.declared.request.Task.TheVariants.{PrintOrder, PrintSchedule, Source, Trace, Explore}
+use Rattle.command.specs.declared.request.Task.TheVariants.{Outcomes}
 use Rattle.command.specs.declared.request.Steps.{Steps}
 use Rattle.command.specs.declared.request.Steps.TheVariants.{Order, Schedule, Seed}
 use Rattle.command.specs.declared.request.UsageFault.{UsageFault}
@@ -108,6 +109,10 @@ pub record IsOrderGiven (given : List Row) (order : List ℕ) : Type 0 where
   pub text : Text
   pub said : first_of (codes "order") given ≡ Some text
   pub listed : IsOrder text order
+
+-- the order at which a page opens: the empty one if none is given
+abbrev pub IsOrderOpened : List Row → List ℕ → Type 0
+IsOrderOpened given order = IsOrderGiven given order ⊎ ((first_of (codes "order") given ≡ None) × (order ≡ []))
 
 -- an order of threads, and neither a schedule nor a seed; a number of steps has no effect then, and still has to be in
 -- its range
@@ -202,6 +207,9 @@ IsTask name given (Source threads order ticks) = (name ≡ codes "source") × Ar
 IsTask name given (Trace threads order property in_full) = (name ≡ codes "trace")
     × IsNumberInRange given (codes "threads") 2 1 64 threads
     × IsOrderGiven given order.items × (option_map string_bytes property ≡ first_of (codes "property") given)
+IsTask name given (Explore threads order always) = (name ≡ codes "explore")
+    × IsNumberInRange given (codes "threads") 2 1 64 threads
+    × IsOrderOpened given order.items × (option_map string_bytes always ≡ first_of (codes "always") given)
     × (IsTrue in_full ↔ IsFlagged given (codes "full"))
 IsTask name given (Outcomes threads steps limit memory time traces) = (name ≡ codes "outcomes")
     × AreThreadsExplored given threads.first threads.last
@@ -312,7 +320,8 @@ IsRequest name given (ExplainEnd word number) = (name ≡ codes "explain")
 
 -- the default number of threads of a command
 abbrev pub default_threads : Text → ℕ
-default_threads name = if bytes_eq name (codes "outcomes") || bytes_eq name (codes "trace") then 2 else 1
+default_threads name =
+    if bytes_eq name (codes "outcomes") || bytes_eq name (codes "trace") || bytes_eq name (codes "explore") then 2 else 1
 
 -- the number of threads of a command, if it is a single one and no range; a command without threads has one
 abbrev pub IsCountOfThreads : Text → List Row → Option ℕ → Type 0

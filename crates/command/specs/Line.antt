@@ -80,6 +80,11 @@ trace_app =
     let threads = with_rule (file_app (codes "trace")) (text_rule (codes "threads")) in
     with_rule (with_rule (with_rule threads order_rule) (text_rule (codes "property"))) (flag_rule (codes "full"))
 
+abbrev pub explore_app : App
+explore_app =
+    let threads = with_rule (file_app (codes "explore")) (text_rule (codes "threads")) in
+    with_rule (with_rule threads (text_rule (codes "order"))) (text_rule (codes "always"))
+
 abbrev pub outcome_states_app : App
 outcome_states_app =
     let threads = with_rule (file_app (codes "outcomes")) (text_rule (codes "threads")) in
@@ -118,5 +123,6 @@ program_app =
     let lists = with_subcommand (with_subcommand commandless_app check_app.top) listing_app.top in
     let runs = with_subcommand (with_subcommand lists run_app.top) replay_app.top in
     let of_source = with_subcommand (with_subcommand runs source_app.top) trace_app.top in
-    let compares = with_subcommand (with_subcommand of_source outcomes_app.top) certify_app.top in
+    let explores = with_subcommand (with_subcommand of_source explore_app.top) outcomes_app.top in
+    let compares = with_subcommand explores certify_app.top in
     with_subcommand (with_subcommand compares test_app.top) explain_app.top

@@ -18,7 +18,7 @@ use std::alloc::{AllocError, Global};
 fn default_threads(name: &str) -> u32
     ensures { result ≡ default_threads name.now }
 {
-    if name == "outcomes" || name == "trace" {
+    if name == "outcomes" || name == "trace" || name == "explore" {
         2
     } else {
         1

@@ -6,7 +6,7 @@ ghost use Rattle.command.specs.inner.Made.{IsMade};
 ghost use Rattle.command.specs.Line.{file_rule, flag_rule, fault_rule, text_rule, wanted_rule, order_rule, file_app};
 ghost use Rattle.command.specs.Line.{check_app, listing_app, run_app, replay_steps_app, replay_app, source_app};
 ghost use Rattle.command.specs.Line.{outcome_states_app, outcomes_app, certify_app, explain_app, commandless_app};
-ghost use Rattle.command.specs.Line.{define_rule, files_rule, program_app, test_app, trace_app, trap_rule};
+ghost use Rattle.command.specs.Line.{define_rule, files_rule, explore_app, program_app, test_app, trace_app, trap_rule};
 
 use clap::{Arg, ArgAction, Command};
 use std::alloc::{AllocError, Global};
@@ -387,6 +387,27 @@ fn trace<'a>(alloc: Global) -> Result<Command<'a>, AllocError>
     with(command, full)
 }
 
+/// The command that writes a page on which every order can be played.
+fn explore<'a>(alloc: Global) -> Result<Command<'a>, AllocError>
+    ensures { IfOk result (IsMade explore_app) }
+{
+    let command = of_file(
+        alloc,
+        "explore",
+        "Write an HTML page on which every order of transactions can be played, turn by turn",
+        "Example:\n  txc explore seats.c --threads 2 > seats.html",
+    );
+    let command = with(command, threads_traced(alloc));
+    let command = with(command, order(alloc));
+    let always = text(
+        alloc,
+        "always",
+        "NAMES",
+        "Functions `int NAME(void)` of FILE whose values the page shows in every state; names are joined by commas",
+    );
+    with(command, always)
+}
+
 /// The command that lists all outcomes, with its limits and the options that compare outcomes.
 fn outcome_states<'a>(alloc: Global) -> Result<Command<'a>, AllocError>
     ensures { IfOk result (IsMade outcome_states_app) }
@@ -636,6 +657,7 @@ pub fn program<'a>(alloc: Global) -> Result<Command<'a>, AllocError>
     let program = with_command(program, replay(alloc));
     let program = with_command(program, source(alloc));
     let program = with_command(program, trace(alloc));
+    let program = with_command(program, explore(alloc));
     let program = with_command(program, outcomes(alloc));
     let program = with_command(program, certify(alloc));
     let program = with_command(program, test(alloc));

@@ -248,6 +248,13 @@ pub enum Task {
         /// Whether each turn is shown in full.
         in_full: bool,
     },
+    /// Writes a page on which all orders of 1 to 64 threads can be played. It opens at this order, and shows the values
+    /// of functions of these names, joined by commas.
+    Explore {
+        threads: u32,
+        order: Vec<u32>,
+        always: Option<String>,
+    },
     /// Lists the outcomes of 1 to 64 threads in all orders, over at most so many states. In a turn a thread makes at
     /// most so many steps of its code, and states and list take about so many MB of memory. The search takes at most
     /// about so many seconds, if a number is given.

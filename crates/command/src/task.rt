@@ -3,7 +3,8 @@
 ghost use Rattle.std.specs.Prelude.{◌≡◌, ◌≤◌, ◌↔◌, ℕ, List, IfOk, IfErr, IsTrue, Some, None, codes, false, string_bytes};
 ghost use Rattle.clap.specs.Words.{first_of, found_of, rows_of};
 ghost use Rattle.command.specs.Asked.{AreCounted, AreScheduled, AreSteps, AreThreadsGiven};
-ghost use Rattle.command.specs.Asked.{AreUncompared, IsFirstDrawn, IsNotBoth, IsNumberInRange, IsOrderGiven, IsTask};
+ghost use Rattle.command.specs.Asked.{AreUncompared, IsFirstDrawn, IsNotBoth, IsNumberInRange, IsOrderGiven};
+ghost use Rattle.command.specs.Asked.{IsOrderOpened, IsTask};
 ghost use Rattle.command.specs.Asked.{are_asked};
 ghost use Rattle.command.specs.declared.request.Steps.{Steps};
 ghost use Rattle.command.specs.inner.Refusals.{AreNoTask, IsOutOfRange, IsOwn};
@@ -216,6 +217,29 @@ fn trace(alloc: Global, given: &ArgMatches<'_>) -> Result<Task, UsageFault>
     })
 }
 
+/// The order at which a page opens: the empty one if none is given.
+fn order_opened(alloc: Global, given: &ArgMatches<'_>) -> Result<Vec<u32>, UsageFault>
+    ensures ok { IfOk result (λ v. IsOrderOpened (rows_of (found_of given.now)) v.items) }
+    ensures err { IfErr result (IsOwn ((ns : List ℕ) → IsOrderOpened (rows_of (found_of given.now)) ns → ⊥)) }
+{
+    match text_given(given, "order") {
+        Some(_) => order_given(alloc, given),
+        None => Ok(Vec::new(alloc)),
+    }
+}
+
+/// A page of all orders.
+fn explore(alloc: Global, given: &ArgMatches<'_>) -> Result<Task, UsageFault>
+    ensures ok { IfOk result (IsTask (codes "explore") (rows_of (found_of given.now))) }
+    ensures err { IfErr result (IsOwn (AreNoTask (codes "explore") (rows_of (found_of given.now)))) }
+{
+    Ok(Task::Explore {
+        threads: number(alloc, given, "threads", 2, 1, MOST_THREADS)?,
+        order: order_opened(alloc, given)?,
+        always: text_kept(alloc, given, "always")?,
+    })
+}
+
 /// The outcomes of all orders, where they are compared with nothing and no function is asked.
 fn outcomes(alloc: Global, given: &ArgMatches<'_>) -> Result<Task, UsageFault>
     requires alone { AreUncompared (rows_of (found_of given.now)) }
@@ -255,6 +279,7 @@ pub(crate) fn task(alloc: Global, name: &str, given: &ArgMatches<'_>) -> Result<
         "replay" => replay(alloc, given),
         "source" => source(alloc, given),
         "trace" => trace(alloc, given),
+        "explore" => explore(alloc, given),
         "outcomes" => outcomes(alloc, given),
         _ => Err(wrong(alloc, "no such command")),
     }

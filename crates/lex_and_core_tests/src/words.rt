@@ -126,7 +126,19 @@ fn reads_words(rt: HostRuntime) {
 }
 
 fn orders() -> &'static [Row] {
-    static ROWS: [Row; 8] = [
+    static ROWS: [Row; 11] = [
+        (
+            "txc|explore|a.c",
+            br#"Ok(Program { file: "a.c", verbose: false, format: Plain, task: Explore { threads: 2, order: [], always: None } })"#,
+        ),
+        (
+            "txc|explore|--threads|3|a.c|--order|0,2|--always|p,q",
+            br#"Ok(Program { file: "a.c", verbose: false, format: Plain, task: Explore { threads: 3, order: [0, 2], always: Some("p,q") } })"#,
+        ),
+        (
+            "txc|explore|a.c|--order|0,",
+            br#"Err(Wrong { text: "txc: usage: bad --order\n" })"#,
+        ),
         (
             "txc|trace|--order|0,1|a.c",
             br#"Ok(Program { file: "a.c", verbose: false, format: Plain, task: Trace { threads: 2, order: [0, 1], property: None, in_full: false } })"#,
@@ -941,7 +953,11 @@ fn tells_its_version(rt: HostRuntime) {
 
 /// Numbers in place of names.
 fn definitions() -> &'static [Row] {
-    static ROWS: [Row; 9] = [
+    static ROWS: [Row; 10] = [
+        (
+            "txc|explore|a.c|-D|N=threads",
+            br#"Ok([Definition { name: "N", number: Number { is_negative: false, magnitude: 2 } }], Program { file: "a.c", verbose: false, format: Plain, task: Explore { threads: 2, order: [], always: None } })"#,
+        ),
         (
             "txc|listing|a.c|-D|N=3|-DM=-4",
             br#"Ok([Definition { name: "N", number: Number { is_negative: false, magnitude: 3 } }, Definition { name: "M", number: Number { is_negative: true, magnitude: 4 } }], Program { file: "a.c", verbose: false, format: Plain, task: Listing })"#,

@@ -5,7 +5,7 @@ use Rattle.std.specs.Result.{IsErrAnd}
 use Rattle.syntax.specs.Grammar.{ParsedSource as Spelled}
 use Rattle.separation.specs.Touching.{IsAccepted}
 use Rattle.command.specs.declared.request.Task.{Task}
-use Rattle.command.specs.declared.request.Task.TheVariants.{Check, Listing, Run, Replay, Timeline, Picture, PrintOrder, PrintSchedule, Source, Trace, Outcomes}
+use Rattle.command.specs.declared.request.Task.TheVariants.{Check, Listing, Run, Replay, Timeline, Picture, PrintOrder, PrintSchedule, Source, Trace, Explore, Outcomes}
 use Rattle.lex.specs.declared.fault.LexFault.TheVariants.{FileTooLong}
 use Rattle.lex.specs.declared.lexer.TheConstants.{MOST_BYTES}
 use Rattle.lower.specs.Faults.{IsLowerFaultOf}
@@ -57,6 +57,7 @@ refused_task (PrintSchedule threads seed count) text is = refused_text text is
 refused_task (PrintOrder threads order) text is = refused_text text is
 refused_task (Source threads order ticks) text is = is
 refused_task (Trace threads order property in_full) text is = refused_text text is
+refused_task (Explore threads order always) text is = refused_text text is
 refused_task (Outcomes threads steps limit memory time traces) text is = refused_text text is
 
 -- a file that is too long is refused
@@ -80,6 +81,7 @@ nothing_printed (PrintSchedule threads seed count) schedule text status old new 
 nothing_printed (PrintOrder threads order) schedule text status old new zero three = λ e. absurd (zero e)
 nothing_printed (Source threads order ticks) schedule text status old new zero three = λ e. absurd (neither status zero three e)
 nothing_printed (Trace threads order property in_full) schedule text status old new zero three = λ e. absurd (neither status zero three e)
+nothing_printed (Explore threads order always) schedule text status old new zero three = λ e. absurd (zero e)
 nothing_printed (Outcomes threads steps limit memory time traces) schedule text status old new zero three =
     stops (λ n s o w. PrintsOutcomes n text s o w) (threads.last - threads.first) threads.first status old new zero (λ e. absurd (neither status zero three e))
 

@@ -5,7 +5,7 @@ use Rattle.command.specs.declared.request.Request.TheVariants.{Program, Certify,
 use Rattle.command.specs.declared.request.Request.TheVariants.{Explain, ExplainEnd}
 use Rattle.command.specs.declared.request.Task.{Task}
 use Rattle.command.specs.declared.request.Task.TheVariants.{Check, Listing, Run, Replay, Timeline, Picture}
-use Rattle.command.specs.declared.request.Task.TheVariants.{PrintOrder, PrintSchedule, Source, Trace, Outcomes}
+use Rattle.command.specs.declared.request.Task.TheVariants.{PrintOrder, PrintSchedule, Source, Trace, Explore, Outcomes}
 use Rattle.serving.specs.Certified.{CertifiesReport, WritesVerdict}
 use Rattle.serving.specs.Checks.{Accepts, SaysAccepted}
 use Rattle.serving.specs.Compared.{ComparesOutcomes, WritesComparison}
@@ -18,6 +18,7 @@ use Rattle.serving.specs.Properties.{AnswersQuestions, IsToldOf}
 use Rattle.serving.specs.Orders.{RunsInOrder, RunsInSomeOrder}
 use Rattle.serving.specs.Runs.{RunsConcurrently}
 use Rattle.serving.specs.Pictures.{PrintsPicture, ReplaysDrawn}
+use Rattle.serving.specs.Explored.{PrintsPage}
 use Rattle.serving.specs.Traces.{PrintsTrace, TracesOrder}
 use Rattle.serving.specs.Written.{IsAskedFor, WritesPart}
 use Rattle.serving.specs.Replays.{PrintsOrder, PrintsSchedule, PrintsTimeline, Replays, ReplaysShown}
@@ -48,6 +49,7 @@ Answers (Source threads order ticks) schedule text status old new =
     PrintsReport (λ shown. RunsInOrder threads ticks order.items text shown × Accepts text) status old new
 Answers (Trace threads order property in_full) schedule text status old new =
     PrintsTrace (λ written shown. TracesOrder threads order.items text written shown) status old new
+Answers (Explore threads order always) schedule text status old new = PrintsPage text status old new
 Answers (Outcomes threads steps limit memory time traces) schedule text status old new =
     SaysOfRange (λ n s o w. PrintsOutcomes n text s o w) threads status old new
 

@@ -24,6 +24,8 @@ pub mod Runs
 pub mod Replays
 -- orders shown turn by turn
 pub mod Traces
+-- pages of all orders
+pub mod Explored
 -- pictures of replays
 pub mod Pictures
 -- why a source is refused

@@ -5,7 +5,7 @@ use Rattle.command.specs.declared.request.Request.TheVariants.{Program, Certify,
 use Rattle.command.specs.declared.request.Request.TheVariants.{Explain, ExplainEnd}
 use Rattle.command.specs.declared.request.Task.{Task}
 use Rattle.command.specs.declared.request.Task.TheVariants.{Check, Listing, Run, Replay, Timeline, Picture}
-use Rattle.command.specs.declared.request.Task.TheVariants.{PrintOrder, PrintSchedule, Source, Trace, Outcomes}
+use Rattle.command.specs.declared.request.Task.TheVariants.{PrintOrder, PrintSchedule, Source, Trace, Explore, Outcomes}
 use Rattle.serving.specs.Compared.{HaveNoCode}
 use Rattle.serving.specs.Limits.{HasNoCode}
 use Rattle.serving.specs.Refusals.{IsRefused}
@@ -22,6 +22,7 @@ IsRefusedFor (PrintSchedule threads seed count) text = HasNoCode text
 IsRefusedFor (PrintOrder threads order) text = HasNoCode text
 IsRefusedFor (Source threads order ticks) text = IsRefused text
 IsRefusedFor (Trace threads order property in_full) text = HasNoCode text
+IsRefusedFor (Explore threads order always) text = HasNoCode text
 IsRefusedFor (Outcomes threads steps limit memory time traces) text = HasNoCode text
 
 -- why a request is refused, if these are the bytes of the file and of what its outcomes are compared with

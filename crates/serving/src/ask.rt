@@ -95,7 +95,7 @@ pub(crate) fn pieces<'a, A: Allocator>(
 }
 
 /// The names that are given, if any are.
-fn names_of<'a, A: Allocator>(
+pub(crate) fn names_of<'a, A: Allocator>(
     alloc: A,
     given: &'a Option<String>,
 ) -> Result<Vec<&'a str, A>, AllocError>

@@ -15,6 +15,7 @@ mod cover;
 mod ends;
 mod every_number;
 mod expected;
+mod explore;
 mod files;
 mod further;
 mod globals;

@@ -8,6 +8,7 @@ ghost use Rattle.serving.specs.inner.Serves.{ServesTask};
 
 use crate::all_outcomes::all_outcomes;
 use crate::check::check;
+use crate::explore::explore_orders;
 use crate::files::text_of;
 use crate::listing::list;
 use crate::pictures::draw;
@@ -177,6 +178,11 @@ fn work_alone<A: Allocator + Copy, S: Read + Drop, W: Write, E: Write>(
             out,
             teller,
         ),
+        Task::Explore {
+            threads,
+            order,
+            always,
+        } => explore_orders(alloc, text, *threads, order.as_slice(), always, out, teller),
         Task::Outcomes {
             threads,
             steps,

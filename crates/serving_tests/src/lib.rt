@@ -10,6 +10,8 @@ mod certified;
 #[cfg(test)]
 mod compared;
 #[cfg(test)]
+mod explored;
+#[cfg(test)]
 mod fixed;
 #[cfg(test)]
 mod further;

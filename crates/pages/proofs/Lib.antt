@@ -1,0 +1,2 @@
+-- JSON inside of HTML
+mod Escaped

@@ -1,0 +1,5 @@
+use Rattle.pages.proofs.Escaped.{no_bracket}
+use Rattle.pages.proofs.laws.no_data_opens_a_tag.Goals as goal
+
+pub returns : goal.returns
+returns c = no_bracket

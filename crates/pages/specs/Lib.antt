@@ -1,0 +1,2 @@
+-- JSON inside of HTML
+pub mod Escaped
