@@ -111,6 +111,40 @@ impl HasEnd for ThreadSeen<'_> {
     }
 }
 
+/// A thread of which it is told where its steps are used up, or nothing.
+struct LongThread {
+    is_long: bool,
+}
+
+impl HasEnd for LongThread {
+    fn end(&self) -> End {
+        if self.is_long {
+            End::Budget
+        } else {
+            End::Ended
+        }
+    }
+}
+
+/// Tells where the steps of threads are used up that these show as out of ticks.
+pub(crate) fn tell_long<A: Allocator + Copy, E: Write>(
+    alloc: A,
+    text: &str,
+    threads: &[ThreadShown<A>],
+    stood: &[Stood],
+    err: &mut E,
+) {
+    let mut all = Vec::new(alloc);
+    'threads: for thread in threads {
+        let is_long = thread.end == End::Spent;
+        if all.push(LongThread { is_long }).is_err() {
+            return;
+        }
+    }
+    let mut shown = Vec::new(alloc);
+    tell_threads(alloc, text, all.as_slice(), stood, &mut shown, err);
+}
+
 /// Tells where each thread stands that trapped or goes no further, where lines are wanted, with the line of the source:
 /// once, where several stand at one place.
 pub(crate) fn tell_ends<A: Allocator + Copy, T: HasEnd, E: Write>(

@@ -31,6 +31,7 @@ mod print;
 mod program;
 mod progress;
 mod properties;
+mod reasons;
 mod refined;
 mod replays;
 mod request;

@@ -1,14 +1,15 @@
 //! Where threads stand that trapped in listed outcomes, or wait in orders that are stuck, and which option lets a walk go
 //! on that was stopped, told behind the list.
 
-use crate::ends::{is_some_new, tell_threads};
+use crate::ends::{is_some_new, tell_long, tell_threads};
 use crate::program::read_accepted;
 use crate::properties::PropertiesFound;
+use crate::reasons::Reason;
 use crate::source::order_accepted;
 use crate::tell::Teller;
 use crate::walked::OutcomesFound;
 use lex::token::Span;
-use report::{End, ReportedOrder, ThreadShown, WalkEnd};
+use report::{End, Finding, Property, ReportedOrder, ThreadShown, WalkEnd};
 use separation::Accepted;
 use std::alloc::Allocator;
 use std::io::Write;
@@ -35,6 +36,7 @@ pub(crate) fn tell_listed_ends<A: Allocator + Copy, E: Write>(
         tell_orders(
             alloc, text, &accepted, threads, stuck, &mut shown, teller.err,
         );
+        tell_reason(alloc, text, &accepted, threads, &found.reason, teller.err);
     }
     tell_stop(found.end, teller.err);
 }
@@ -62,8 +64,78 @@ pub(crate) fn tell_asked_ends<A: Allocator + Copy, E: Write>(
             teller.err,
             "txc: each property has its answer, so the search stopped; --keep-going continues it"
         );
-    } else {
+    } else if found.end != WalkEnd::Whole {
+        tell_answered(found.properties.as_slice(), teller.err);
+        tell_reason(alloc, text, accepted, threads, &found.reason, teller.err);
         tell_stop(found.end, teller.err);
+    }
+}
+
+/// Whether it is known of a property that it fails, or takes too long.
+fn is_answered<A: Allocator>(one: &Property<A>) -> bool {
+    match &one.finding {
+        Finding::Open(_) => false,
+        Finding::Holds(_) | Finding::Fails(_) | Finding::Spent(_) => true,
+    }
+}
+
+/// Tells which properties have an answer, and which have none, if some have one.
+fn tell_answered<A: Allocator, E: Write>(properties: &[Property<A>], err: &mut E) {
+    if properties.iter().any(|one| is_answered(one)) {
+        tell_names(b"txc: answered: ", properties, true, err);
+        tell_names(b"txc: not answered: ", properties, false, err);
+    }
+}
+
+/// Tells the names of the properties that have an answer, or of the others, after these words.
+fn tell_names<A: Allocator, E: Write>(
+    words: &[u8],
+    properties: &[Property<A>],
+    have_answer: bool,
+    err: &mut E,
+) {
+    let mut is_first = true;
+    'properties: for one in properties {
+        if is_answered(one) == have_answer {
+            let _ = err.write_all(if is_first { words } else { b", ".as_slice() });
+            let _ = err.write_all(one.name.as_str().as_bytes());
+            is_first = false;
+        }
+    }
+    if !is_first {
+        let _ = err.write_all(b"\n");
+    }
+}
+
+/// After how many ticks a thread of the source is taken for one whose turn is too long.
+const LONG_TICKS: u64 = 1000000;
+
+/// Tells why a search stopped.
+fn tell_reason<A: Allocator + Copy, E: Write>(
+    alloc: A,
+    text: &str,
+    accepted: &Accepted<A>,
+    threads: u32,
+    reason: &Reason<A>,
+    err: &mut E,
+) {
+    match reason {
+        Reason::Untold => {}
+        Reason::LongTurn(order) => {
+            let order = order.as_slice();
+            write_order(order, err);
+            if let Ok((printed, stood)) = order_accepted(
+                alloc, accepted, threads, order, LONG_TICKS,
+            ) {
+                let found = printed.threads.as_slice();
+                tell_long(alloc, text, found, stood.as_slice(), err);
+            }
+        }
+        Reason::Spread(words) => {
+            let _ = err.write_all(b"txc: ");
+            let _ = err.write_all(words.as_slice());
+            let _ = err.write_all(b"\n");
+        }
     }
 }
 

@@ -5,6 +5,7 @@ ghost use Rattle.std.specs.Prelude.{◌≢◌, IfSome};
 ghost use Rattle.report.specs.declared.outcome_list.WalkEnd.TheVariants.{Whole};
 
 use crate::listed_bytes::bytes_of;
+use crate::tell::Detail;
 use report::{ReportSet, WalkEnd};
 use std::alloc::Allocator;
 use std::io::{ErrorKind, Write};
@@ -19,9 +20,13 @@ pub(crate) struct ProgressLine<'e, E: Write> {
     err: &'e mut E,
     /// Whether it is to be shown.
     is_wanted: bool,
+    /// Whether it is told why a search stopped.
+    explains: bool,
     /// Whether a line is shown.
     is_shown: bool,
     states: usize,
+    /// In how many states each thread's turn was made.
+    expanded: usize,
     /// How many states or outcomes there are before it is written anew.
     due: usize,
     /// How many bytes the states and the list may take: the states half of them, and the list what these leave.
@@ -41,12 +46,14 @@ pub(crate) struct ProgressLine<'e, E: Write> {
 
 impl<'e, E: Write> ProgressLine<'e, E> {
     /// No line yet, and so many bytes for all.
-    pub(crate) fn new(err: &'e mut E, is_wanted: bool, most: u64) -> ProgressLine<'e, E> {
+    pub(crate) fn new(err: &'e mut E, detail: Detail<'_>, most: u64) -> ProgressLine<'e, E> {
         ProgressLine {
             err,
-            is_wanted,
+            is_wanted: detail.progress,
+            explains: detail.lines,
             is_shown: false,
             states: 0,
+            expanded: 0,
             due: STRIDE,
             most,
             held: 0,
@@ -65,6 +72,11 @@ impl<'e, E: Write> ProgressLine<'e, E> {
         self.states = states;
         self.held = self.held.min(self.most / 2);
         self.due = STRIDE;
+    }
+
+    /// Whether it is told why a search stopped.
+    pub(crate) fn explains(&self) -> bool {
+        self.explains
     }
 
     /// What ran out, if something did: memory or time.
@@ -116,7 +128,7 @@ impl<'e, E: Write> ProgressLine<'e, E> {
         if self.is_wanted && listed >= self.due {
             self.due = listed.saturating_add(STRIDE);
             self.is_shown = true;
-            let _ = write!(self.err, "\rtxc: {} states, {listed} outcomes", self.states);
+            let _ = write!(self.err, "\rtxc: {listed} outcomes, {} states", self.states);
         }
     }
 
@@ -124,7 +136,7 @@ impl<'e, E: Write> ProgressLine<'e, E> {
     pub(crate) fn clear(&mut self) {
         if self.is_shown {
             self.is_shown = false;
-            let _ = write!(self.err, "\r{:60}\r", "");
+            let _ = write!(self.err, "\r{:79}\r", "");
         }
     }
 }
@@ -133,13 +145,15 @@ impl<A: Allocator + Copy, E: Write> Progress<A> for ProgressLine<'_, E> {
     fn tell(&mut self, walk: &Walk<A>, bytes: u64) -> bool {
         let states = walk.states();
         self.held = bytes;
+        self.expanded = self.expanded.saturating_add(1);
         if bytes > self.most / 2 {
             self.is_full = true;
         }
         if self.is_wanted && states >= self.due {
             self.due = states.saturating_add(STRIDE);
             self.is_shown = true;
-            let _ = write!(self.err, "\rtxc: {states} states");
+            let left = states.saturating_sub(self.expanded);
+            let _ = write!(self.err, "\rtxc: {states} states, {left} to expand");
         }
         self.watch_time();
         !self.is_full && !self.is_over

@@ -4,9 +4,10 @@ use std::io;
 use std::io::{ErrorKind, Write};
 use std::time::{Clock, Instant};
 
-/// A writer that appends the whole seconds since it was made to each open line that is flushed, as in `, 12 s`, for a
-/// progress line. A line is open until its end or a carriage return is written. Nothing is appended within the first
-/// second, nor if the clock can't be read.
+/// A writer that appends the whole seconds since it was made to each open line that is flushed, as in `, 12 s, 5000/s`,
+/// for a progress line. The rate is that of the first number in the line, since it was last smaller than before. A line
+/// is open until its end or a carriage return is written. Nothing is appended within the first second, nor if the clock
+/// can't be read.
 ///
 /// If the time has a limit, a flush fails with `TimedOut` once these seconds have passed, and again each time that as
 /// many more have passed. No other flush fails.
@@ -21,6 +22,13 @@ pub struct Timed<'a, W: Write, C: Clock> {
     due: u64,
     /// Whether a line is open that has no seconds yet.
     is_open: bool,
+    /// The first number in the line, and whether it is complete.
+    number: Option<u64>,
+    is_read: bool,
+    /// The first number in the line before.
+    before: u64,
+    /// From which second the rate counts.
+    second: u64,
 }
 
 impl<'a, W: Write, C: Clock> Timed<'a, W, C> {
@@ -38,6 +46,10 @@ impl<'a, W: Write, C: Clock> Timed<'a, W, C> {
             limit,
             due,
             is_open: false,
+            number: None,
+            is_read: false,
+            before: 0,
+            second: 0,
         }
     }
 
@@ -55,8 +67,42 @@ impl<'a, W: Write, C: Clock> Timed<'a, W, C> {
             self.is_open = false;
             if seconds > 0 {
                 let _ = write!(self.writer, ", {seconds} s");
+                self.put_rate(seconds);
             }
             let _ = self.writer.flush();
+        }
+    }
+
+    /// Appends the rate of the first number.
+    fn put_rate(&mut self, seconds: u64) {
+        let Some(number) = self.number else {
+            return;
+        };
+        if number < self.before {
+            self.second = seconds;
+        }
+        self.before = number;
+        let passed = seconds.saturating_sub(self.second);
+        if let Some(rate) = number.checked_div(passed) {
+            let _ = write!(self.writer, ", {rate}/s");
+        }
+    }
+
+    /// Reads the first number of a line.
+    fn read_number(&mut self, text: &[u8]) {
+        'bytes: for byte in text {
+            if *byte == b'\r' || *byte == b'\n' {
+                self.number = None;
+                self.is_read = false;
+            } else if !self.is_read {
+                if byte.is_ascii_digit() {
+                    let number = self.number.unwrap_or(0);
+                    let digit = u64::from(byte.saturating_sub(b'0'));
+                    self.number = Some(number.saturating_mul(10).saturating_add(digit));
+                } else {
+                    self.is_read = self.number.is_some();
+                }
+            }
         }
     }
 }
@@ -66,6 +112,7 @@ impl<W: Write, C: Clock> Write for Timed<'_, W, C> {
         if let [.., last] = buf {
             self.is_open = *last != b'\n' && *last != b'\r';
         }
+        self.read_number(buf);
         self.writer.write(buf)
     }
 

@@ -331,7 +331,7 @@ fn shows_how_far_it_is(rt: HostRuntime) {
         b"== outcome --order 0,0,0,0,0,0,0,0,0,0,0,0,0,0,0,0,0,0,0,0,0,0,0,0,0,0,0,0,0,0,0,0,0,0,0,0,0,0,0,0,1,1,1,1,1,1,1,1,1,1,1,1,1,1,1,1,1,1,1,1,1,1,1,1,1,1,1,1,1,1,1,1,1,1,1,1,1,1,1,1\n== thread 0: ended\n== thread 1: ended\n== memory\nx = 80\n== outcomes: 1, stuck: 0, states: 1681, threads: 2\n".as_slice();
     let many = MANY.as_bytes();
     let shown =
-        b"\rtxc: 1000 states\r                                                            \r".as_slice();
+        b"\rtxc: 1000 states, 18 to expand\r                                                                               \r".as_slice();
     assert!(rt; answers(&rt, rt.alloc(), line, many, b"", false, (0, told, b"")));
     assert!(rt; answers(&rt, rt.alloc(), line, many, b"", true, (0, told, shown)));
 }

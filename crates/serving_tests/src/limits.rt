@@ -98,14 +98,14 @@ fn it_is_told_what_lets_a_walk_go_on(rt: HostRuntime) {
     let at_steps = (
         4,
         b"== outcomes: 0, stuck: 0, states: 1, threads: 1, stopped at the steps\n".as_slice(),
-        b"txc: --steps N is how many steps a thread may make in one turn\n".as_slice(),
+        b"txc: with --order 0\ntxc: thread 0: its steps are used up at 1:62\nint x; void worker(int self) { __transaction_atomic { while (x == 0) ; } }\n                                                             ^^^^^^\ntxc: --steps N is how many steps a thread may make in one turn\n".as_slice(),
     );
     let line = "txc outcomes a.c --threads 1 --verbose";
     assert!(rt; answers(&rt, alloc, line, WAITS, b"", false, at_steps));
     let at_memory = (
         4,
         b"== outcomes: 0, stuck: 0, states: 3, threads: 2, stopped at the memory\n".as_slice(),
-        b"txc: --memory MB is how much memory states and list may take\n".as_slice(),
+        b"txc: in 3 states: thread 0 is at 2 places, in 2 ways; thread 1 is at 2 places, in 2 ways\ntxc: --memory MB is how much memory states and list may take\n".as_slice(),
     );
     let line = "txc outcomes a.c --threads 2 --memory 0";
     assert!(rt; answers(&rt, alloc, line, TWICE, b"", true, at_memory));

@@ -228,7 +228,7 @@ fn rows() -> &'static [Row] {
             (
                 4,
                 b"== outcomes: 0, stuck: 0, states: 3, threads: 2, stopped at the time\n",
-                b"txc: --time SECONDS is how long the search may take, and as long again the list\n",
+                b"txc: in 3 states: x has 2 values, 0 to 1\ntxc: --time SECONDS is how long the search may take, and as long again the list\n",
             ),
         ),
         (
