@@ -10,6 +10,7 @@ ghost use Rattle.serving.specs.inner.Serves.{ServesClaim, ServesVerdict};
 
 use crate::by_code::order_by_code;
 use crate::files::{Files, text_of};
+use crate::line_ends::tell_line_ends;
 use crate::print::{REFUTED, has_spent, print, print_text};
 use crate::program::read_accepted;
 use crate::source::order_accepted;
@@ -365,7 +366,10 @@ fn tell_verdict<A: Allocator + Copy, W: Write, E: Write>(
     match difference(alloc, b"source", due, b"report", found) {
         Ok(None) => print_text(b"certified\n", out, err),
         Ok(Some(difference)) => match print(difference.as_slice(), out) {
-            Ok(()) => REFUTED,
+            Ok(()) => {
+                tell_line_ends(due, found, err);
+                REFUTED
+            }
             Err(_) => cannot_write(err),
         },
         Err(_) => out_of_memory(err),

@@ -10,6 +10,7 @@ ghost use Rattle.serving.specs.inner.Serves.{PrintsEither, ServesExpected};
 use crate::all_outcomes::list_outcomes;
 use crate::certify::read_all;
 use crate::compared::{Limits, is_whole, tell_stopped};
+use crate::line_ends::tell_line_ends;
 use crate::print::{REFUTED, print, print_text};
 use crate::request::bytes_of_memory;
 use crate::source::OrderFault;
@@ -107,7 +108,13 @@ fn tell_expected<A: Allocator + Copy, W: Write, E: Write>(
 {
     match difference(alloc, b"expected", expected, b"found", list) {
         Ok(None) => tell_same(found, out, teller),
-        Ok(Some(difference)) => tell_unexpected(found, difference.as_slice(), out, teller),
+        Ok(Some(difference)) => {
+            let status = tell_unexpected(found, difference.as_slice(), out, teller);
+            if status == REFUTED {
+                tell_line_ends(expected, list, teller.err);
+            }
+            status
+        }
         Err(_) => out_of_memory(teller.err),
     }
 }

@@ -15,7 +15,7 @@ use crate::certify::open_claim;
 use crate::compared::open_comparison;
 use crate::cover::open_covered;
 use crate::request::{explain, explain_end, serve_program};
-use crate::tell::{Detail, Teller, not_text, refuse_replay};
+use crate::tell::{Detail, Teller, refuse_replay};
 use crate::timed::Timed;
 use bytecode::Code;
 use command::{Request, Steps, Task};
@@ -205,7 +205,10 @@ pub(crate) fn text_of<A: Allocator + Copy, R: Read + Drop, E: Write>(
 {
     match read_source(alloc, source) {
         Ok(SourceText::Text(text)) => Ok(text),
-        Ok(SourceText::NotText) => Err(not_text(teller.detail.file, teller.err)),
+        Ok(SourceText::NotText) => {
+            let file = teller.detail.file;
+            Err(teller.not_text(file))
+        }
         Ok(SourceText::TooLong) => Err(teller.too_long(alloc)),
         Err(error) => {
             let file = teller.detail.file;
@@ -331,7 +334,7 @@ fn lines_read<A: Allocator + Copy, S: Read + Drop, E: Write>(
             Ok(found) => Ok(found),
             Err(fault) => Err(teller.refuse_schedule(alloc, text.as_str(), fault)),
         },
-        Ok(None) => Err(not_text(file, teller.err)),
+        Ok(None) => Err(teller.not_text(file)),
         Err(error) => Err(teller.not_read(file, &error)),
     }
 }

@@ -21,6 +21,7 @@ mod further;
 mod globals;
 mod growth;
 pub mod laws;
+mod line_ends;
 mod listed_bytes;
 mod listed_ends;
 mod listed_traces;

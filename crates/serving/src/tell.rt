@@ -12,7 +12,7 @@ use command::{Format, UsageFault};
 use lex::place;
 use lex::token::Span;
 use meaning::MeaningFault;
-use messages::{Fault, hints, json_line, short_line, underline, words, write_shown};
+use messages::{Fault, hints, json_line, short_line, underline, words, write_quoted, write_shown};
 use replay::ScheduleFault;
 use std::alloc::Allocator;
 use std::io;
@@ -178,13 +178,45 @@ impl<E: Write> Teller<'_, E> {
     fn cannot_read(&mut self, file: &str, error: &io::Error) -> u8
         ensures { result ≡ 2 }
     {
-        let _ = self.err.write_all(b"txc: cannot read ");
-        let _ = write_shown(file, "", self.err);
-        let _ = if self.detail.reasons {
-            writeln!(self.err, " ({error})")
+        match self.detail.format {
+            Format::Plain => {
+                let _ = self.err.write_all(b"txc: cannot read ");
+                let _ = write_shown(file, "", self.err);
+                let _ = if self.detail.reasons {
+                    writeln!(self.err, " ({error})")
+                } else {
+                    writeln!(self.err)
+                };
+            }
+            Format::Short | Format::Json => self.tell_of_file(file, "cannot be read"),
+        }
+        UNUSABLE
+    }
+
+    /// Says what hinders the use of a file, in a format for editors.
+    fn tell_of_file(&mut self, file: &str, what: &str) {
+        if self.detail.format == Format::Json {
+            let _ = self.err.write_all(b"{\"file\":");
+            let _ = write_quoted(file, self.err);
+            let _ = writeln!(self.err, ",\"message\":\"{what}\"}}");
         } else {
-            writeln!(self.err)
-        };
+            let _ = write_shown(file, "", self.err);
+            let _ = writeln!(self.err, ": error: {what}");
+        }
+    }
+
+    /// Says that a file's text is not UTF-8.
+    pub(crate) fn not_text(&mut self, file: &str) -> u8
+        ensures { result ≡ 2 }
+    {
+        match self.detail.format {
+            Format::Plain => {
+                let _ = self.err.write_all(b"txc: ");
+                let _ = write_shown(file, "", self.err);
+                let _ = writeln!(self.err, " is not UTF-8");
+            }
+            Format::Short | Format::Json => self.tell_of_file(file, "is not UTF-8"),
+        }
         UNUSABLE
     }
 
@@ -389,16 +421,6 @@ pub fn unread_words<E: Write>(kind: ErrorKind, err: &mut E) -> u8
             UNUSABLE
         }
     }
-}
-
-/// Says that a file's text is not UTF-8.
-pub(crate) fn not_text<E: Write>(file: &str, err: &mut E) -> u8
-    ensures { result ≡ 2 }
-{
-    let _ = err.write_all(b"txc: ");
-    let _ = write_shown(file, "", err);
-    let _ = writeln!(err, " is not UTF-8");
-    UNUSABLE
 }
 
 /// Tells what was counted of each of so many threads, where that is wanted.

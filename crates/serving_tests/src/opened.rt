@@ -119,6 +119,36 @@ fn rows() -> &'static [Row] {
             false,
             (2, b"", b"txc: cannot read a.c\n"),
         ),
+        // for editors
+        (
+            "txc check a.c --format json",
+            NONE,
+            NONE,
+            false,
+            (
+                2,
+                b"",
+                b"{\"file\":\"a.c\",\"message\":\"cannot be read\"}\n",
+            ),
+        ),
+        (
+            "txc check a.c --format short",
+            NONE,
+            NONE,
+            true,
+            (2, b"", b"a.c: error: cannot be read\n"),
+        ),
+        (
+            "txc check a.c --format json",
+            Ok(b"int\xff"),
+            NONE,
+            false,
+            (
+                2,
+                b"",
+                b"{\"file\":\"a.c\",\"message\":\"is not UTF-8\"}\n",
+            ),
+        ),
         // a schedule is opened before the source is read
         (
             REPLAY,
@@ -218,6 +248,33 @@ fn rows() -> &'static [Row] {
             ),
             false,
             (0, b"as expected\n", b""),
+        ),
+        // line ends may be all that differs
+        (
+            "txc outcomes a.c --threads 1 --expect s.txt",
+            Ok(ADDS),
+            Ok(
+                b"== outcome --order 0\r\n== thread 0: ended\r\n== memory\r\nx = 1\r\n== outcomes: 1, stuck: 0, states: 2, threads: 1\r\n",
+            ),
+            false,
+            (
+                5,
+                b"line 1 differs\nexpected: == outcome --order 0?\nfound: == outcome --order 0\n",
+                b"txc: they differ only in carriage returns\n",
+            ),
+        ),
+        (
+            "txc outcomes a.c --threads 1 --expect s.txt",
+            Ok(ADDS),
+            Ok(
+                b"== outcome --order 0\n== thread 0: ended\n== memory\nx = 1\n== outcomes: 1, stuck: 0, states: 2, threads: 1",
+            ),
+            false,
+            (
+                5,
+                b"line 6 differs\nexpected ends\nfound: \n",
+                b"txc: they differ only in the last line end\n",
+            ),
         ),
         // a search may have no time: it ends after the turns of its first state, and so does a range
         (
