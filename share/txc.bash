@@ -3,7 +3,7 @@ _txc() {
     local word=${COMP_WORDS[COMP_CWORD]} words=
     case ${COMP_WORDS[COMP_CWORD - 1]} in
         --format)
-            words='short json'
+            words='short json github'
             [[ ${COMP_WORDS[1]} == test ]] && words='github json' ;;
         --expect | --order-file | --refines | --report | --schedule) ;;
         --always | --budget | --final | --from | --limit | --memory | --order | --property | --seed | --steps | --threads | --ticks | --time) return ;;

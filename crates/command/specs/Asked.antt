@@ -14,7 +14,7 @@ use Rattle.command.specs.declared.request.Claim.{Claim}
 use Rattle.command.specs.declared.request.Comparison.{Comparison}
 use Rattle.command.specs.declared.request.Coverage.{Coverage}
 use Rattle.command.specs.declared.request.Format.{Format}
-use Rattle.command.specs.declared.request.Format.TheVariants.{Plain, Short, Json}
+use Rattle.command.specs.declared.request.Format.TheVariants.{Plain, Short, Json, Github}
 use Rattle.command.specs.declared.request.Request.{Request}
 use Rattle.command.specs.declared.request.Request.TheVariants.{Program, Certify, Compare, Ask, Cover}
 use Rattle.command.specs.declared.request.Request.TheVariants.{Explain, ExplainEnd}
@@ -290,6 +290,7 @@ abbrev pub IsFormat : Option Text → Format → Type 0
 IsFormat text Plain = text ≡ None
 IsFormat text Short = text ≡ Some (codes "short")
 IsFormat text Json = text ≡ Some (codes "json")
+IsFormat text Github = text ≡ Some (codes "github")
 
 -- a command and the values of its arguments make this request
 abbrev pub IsRequest : Text → List Row → Request → Type 0

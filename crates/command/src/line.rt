@@ -124,7 +124,7 @@ fn format<'a>(alloc: Global) -> Arg<'a>
         alloc,
         "format",
         "HOW",
-        "Report each fault on one line: short is FILE:LINE:COL: error: WORDS [NN], for editors; json is an object",
+        "Report each fault on one line: short is FILE:LINE:COL: error: WORDS [NN], for editors; json is an object; github is an annotation",
     )
 }
 

@@ -117,7 +117,8 @@ fn format_given(alloc: Global, given: &ArgMatches<'_>) -> Result<Format, UsageFa
         None => Ok(Format::Plain),
         Some("short") => Ok(Format::Short),
         Some("json") => Ok(Format::Json),
-        Some(_) => Err(wrong(alloc, "--format is short or json")),
+        Some("github") => Ok(Format::Github),
+        Some(_) => Err(wrong(alloc, "--format is short, json or github")),
     }
 }
 

@@ -180,6 +180,8 @@ pub enum Format {
     Short,
     /// As a JSON object.
     Json,
+    /// As an annotation of GitHub Actions.
+    Github,
 }
 
 /// The output in addition to a verdict on a program.

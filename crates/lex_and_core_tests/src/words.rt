@@ -350,7 +350,7 @@ fn refused_values() -> &'static [Row] {
         ),
         (
             "txc|check|a.c|--format=long",
-            br#"Err(Wrong { text: "txc: usage: --format is short or json\n" })"#,
+            br#"Err(Wrong { text: "txc: usage: --format is short, json or github\n" })"#,
         ),
     ];
     &ROWS

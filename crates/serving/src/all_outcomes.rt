@@ -21,6 +21,7 @@ use crate::listed_ends::tell_listed_ends;
 use crate::listed_traces::tell_listed_traces;
 use crate::print::{ENDED, STOPPED, TRAPPED, has_trapped, print};
 use crate::program::{Compiled, compile};
+use crate::results::tell_list;
 use crate::source::OrderFault;
 use crate::tell::{Teller, cannot_write, out_of_memory};
 use crate::walked::{OutcomesFound, outcomes_in};
@@ -105,6 +106,7 @@ fn list_of_threads<A: Allocator + Copy, W: Write, E: Write>(
     match outcomes_in(alloc, compiled, threads, steps, limit, memory, teller) {
         Ok(found) => {
             let status = print_outcomes(alloc, &found, threads, out, teller.err);
+            tell_list(&found, threads, status, teller);
             tell_listed_ends(alloc, text, threads, &found, teller);
             tell_listed_traces(alloc, text, compiled, threads, &found, teller);
             status

@@ -23,6 +23,7 @@ use crate::print::{ENDED, REFUTED, STOPPED, UNUSABLE, print};
 use crate::program::{Compiled, compile, unit_of};
 use crate::properties::{Extent, PropertiesFound, properties_in};
 use crate::request::bytes_of_memory;
+use crate::results::tell_answers;
 use crate::tell::{Teller, cannot_write, out_of_memory};
 use command::{Questions, ThreadRange};
 use messages::write_shown;
@@ -228,6 +229,7 @@ fn ask_names<A: Allocator + Copy, W: Write, E: Write>(
         Ok(found) => {
             let status = print_found(alloc, &found, threads, out, teller.err);
             let accepted = &compiled.accepted;
+            tell_answers(text, unit_of(accepted), &found, threads, status, teller);
             tell_asked_ends(alloc, text, accepted, threads, &found, teller);
             let wanted = questions.traces;
             tell_asked_traces(alloc, text, compiled, threads, &found, wanted, teller);

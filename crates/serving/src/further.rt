@@ -53,7 +53,7 @@ fn tell_warning<A: Allocator + Copy, E: Write>(
         Format::Plain => {
             let _ = writeln!(teller.err, "txc: warning {name} at {line}:{column}: {what}");
         }
-        Format::Short => {
+        Format::Short | Format::Github => {
             let _ = write_shown(teller.detail.file, "", teller.err);
             let _ = writeln!(teller.err, ":{line}:{column}: warning: {what} [{name}]");
         }
@@ -114,7 +114,7 @@ pub(crate) fn tell_faults<A: Allocator + Copy, E: Write>(
             Format::Plain if count > 1 => {
                 let _ = writeln!(teller.err, "txc: faults: {count}{more}");
             }
-            Format::Plain | Format::Short | Format::Json => {}
+            Format::Plain | Format::Short | Format::Json | Format::Github => {}
         }
     }
 }

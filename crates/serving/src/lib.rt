@@ -36,6 +36,7 @@ mod reasons;
 mod refined;
 mod replays;
 mod request;
+mod results;
 mod run;
 mod run_line;
 mod served;

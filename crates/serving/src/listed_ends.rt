@@ -202,13 +202,19 @@ fn tell_order<A: Allocator + Copy, E: Write>(
 /// Tells of which order what follows is, as a word of a command line.
 pub(crate) fn write_order<E: Write>(order: &[u32], err: &mut E) {
     let _ = err.write_all(b"txc: with --order ");
-    if let [first, others @ ..] = order {
-        let _ = write!(err, "{first}");
-        'others: for thread in others {
-            let _ = write!(err, ",{thread}");
-        }
-    } else {
+    if order.is_empty() {
         let _ = err.write_all(b"''");
     }
+    push_numbers(order, err);
     let _ = err.write_all(b"\n");
+}
+
+/// Writes numbers, joined by commas.
+pub(crate) fn push_numbers<E: Write>(numbers: &[u32], err: &mut E) {
+    if let [first, others @ ..] = numbers {
+        let _ = write!(err, "{first}");
+        'others: for number in others {
+            let _ = write!(err, ",{number}");
+        }
+    }
 }

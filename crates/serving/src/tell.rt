@@ -7,6 +7,7 @@ ghost use Rattle.serving.specs.Usage.{IsHelp, IsWrong};
 
 use crate::print::{ENDED, REFUSED, STOPPED, UNUSABLE, print};
 use crate::program::SourceFault;
+use crate::results::begin_annotation;
 use crate::run::thread_numbered;
 use command::{Format, UsageFault};
 use lex::place;
@@ -44,7 +45,7 @@ impl<'a> Detail<'a> {
         Detail {
             lines: match format {
                 Format::Plain => verbose || is_terminal,
-                Format::Short => verbose,
+                Format::Short | Format::Github => verbose,
                 Format::Json => false,
             },
             reasons: verbose,
@@ -52,11 +53,11 @@ impl<'a> Detail<'a> {
             format,
             further: match format {
                 Format::Plain => is_terminal,
-                Format::Short | Format::Json => false,
+                Format::Short | Format::Json | Format::Github => false,
             },
             progress: match format {
                 Format::Plain => is_terminal,
-                Format::Short | Format::Json => false,
+                Format::Short | Format::Json | Format::Github => false,
             },
             traces: match format {
                 Format::Plain => is_terminal,
@@ -156,6 +157,14 @@ impl<E: Write> Teller<'_, E> {
     fn tell_fault<A: Allocator + Copy>(&mut self, alloc: A, text: &str, number: u32, span: Span) {
         if let Some(line) = line_of(alloc, text, number, span, self.detail) {
             let _ = self.err.write_all(line.as_slice());
+        } else if self.detail.format == Format::Github {
+            let (line, column) = place(text, span.start.min(text.len()));
+            begin_annotation("error", self);
+            let _ = writeln!(
+                self.err,
+                ",line={line},col={column},title=fault {number:02}::{}",
+                words(number)
+            );
         } else {
             let (line, column) = place(text, span.start.min(text.len()));
             let _ = writeln!(
@@ -188,7 +197,9 @@ impl<E: Write> Teller<'_, E> {
                     writeln!(self.err)
                 };
             }
-            Format::Short | Format::Json => self.tell_of_file(file, "cannot be read"),
+            Format::Short | Format::Json | Format::Github => {
+                self.tell_of_file(file, "cannot be read");
+            }
         }
         UNUSABLE
     }
@@ -215,7 +226,9 @@ impl<E: Write> Teller<'_, E> {
                 let _ = write_shown(file, "", self.err);
                 let _ = writeln!(self.err, " is not UTF-8");
             }
-            Format::Short | Format::Json => self.tell_of_file(file, "is not UTF-8"),
+            Format::Short | Format::Json | Format::Github => {
+                self.tell_of_file(file, "is not UTF-8");
+            }
         }
         UNUSABLE
     }
@@ -356,7 +369,7 @@ fn line_of<A: Allocator + Copy>(
         span,
     };
     match detail.format {
-        Format::Plain => None,
+        Format::Plain | Format::Github => None,
         Format::Short => short_line(alloc, fault).ok(),
         Format::Json => json_line(alloc, fault).ok(),
     }

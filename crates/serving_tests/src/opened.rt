@@ -143,11 +143,7 @@ fn rows() -> &'static [Row] {
             Ok(b"int\xff"),
             NONE,
             false,
-            (
-                2,
-                b"",
-                b"{\"file\":\"a.c\",\"message\":\"is not UTF-8\"}\n",
-            ),
+            (2, b"", b"{\"file\":\"a.c\",\"message\":\"is not UTF-8\"}\n"),
         ),
         // a schedule is opened before the source is read
         (
@@ -248,6 +244,55 @@ fn rows() -> &'static [Row] {
             ),
             false,
             (0, b"as expected\n", b""),
+        ),
+        // results for machines
+        (
+            "txc outcomes a.c --threads 1 --format json",
+            Ok(ADDS),
+            NONE,
+            true,
+            (
+                0,
+                b"== outcome --order 0\n== thread 0: ended\n== memory\nx = 1\n== outcomes: 1, stuck: 0, states: 2, threads: 1\n",
+                b"{\"result\":\"outcome\",\"order\":[0],\"threads\":[{\"end\":\"ended\",\"output\":\"\"}],\"globals\":{\"x\":[1]}}\n{\"result\":\"verdict\",\"status\":0,\"threads\":1,\"outcomes\":1,\"stuck\":0,\"states\":2,\"stopped\":null}\n",
+            ),
+        ),
+        (
+            "txc outcomes a.c --threads 1 --always p --format json",
+            Ok(
+                b"int a[2] = {-1}; int p(void) { return !a[1]; } void worker(int self) { printf(\"\\\"\\n\"); __transaction_atomic { a[1] = 1; } }",
+            ),
+            NONE,
+            false,
+            (
+                5,
+                b"== not p --order 0\n== thread 0: ended\n\"\n== memory\na = -1 1\n",
+                b"{\"result\":\"property\",\"name\":\"p\",\"when\":\"always\",\"verdict\":\"fails\",\"order\":[0],\"threads\":[{\"end\":\"ended\",\"output\":\"\\\"\\u000a\"}],\"globals\":{\"a\":[-1,1]}}\n{\"result\":\"verdict\",\"status\":5,\"threads\":1,\"stuck\":0,\"stopped\":\"answered\"}\n",
+            ),
+        ),
+        (
+            "txc outcomes a.c --threads 1 --always p --format github",
+            Ok(
+                b"int x; int p(void) { return !x; } void worker(int self) { __transaction_atomic { x = 1; } }",
+            ),
+            NONE,
+            false,
+            (
+                5,
+                b"== not p --order 0\n== thread 0: ended\n== memory\nx = 1\n",
+                b"::error file=a.c,line=1,col=12,title=p::p fails with --order 0\n",
+            ),
+        ),
+        (
+            "txc check a.c --format github",
+            Ok(b"int x;"),
+            NONE,
+            false,
+            (
+                1,
+                b"",
+                b"::error file=a.c,line=1,col=7,title=fault 28::no worker\n",
+            ),
         ),
         // line ends may be all that differs
         (
