@@ -109,11 +109,7 @@ fn tell_expected<A: Allocator + Copy, W: Write, E: Write>(
     match difference(alloc, b"expected", expected, b"found", list) {
         Ok(None) => tell_same(found, out, teller),
         Ok(Some(difference)) => {
-            let status = tell_unexpected(found, difference.as_slice(), out, teller);
-            if status == REFUTED {
-                tell_line_ends(expected, list, teller.err);
-            }
-            status
+            tell_unexpected(found, difference.as_slice(), expected, list, out, teller)
         }
         Err(_) => out_of_memory(teller.err),
     }
@@ -140,6 +136,8 @@ fn tell_same<A: Allocator, W: Write, E: Write>(
 fn tell_unexpected<A: Allocator, W: Write, E: Write>(
     found: &OutcomesFound<A>,
     difference: &[u8],
+    expected: &[u8],
+    list: &[u8],
     out: &mut W,
     teller: &mut Teller<'_, E>,
 ) -> u8
@@ -150,7 +148,10 @@ fn tell_unexpected<A: Allocator, W: Write, E: Write>(
         return tell_stopped(teller.detail.file, "", found.end, teller);
     }
     match print(difference, out) {
-        Ok(()) => REFUTED,
+        Ok(()) => {
+            tell_line_ends(expected, list, teller.err);
+            REFUTED
+        }
         Err(_) => cannot_write(teller.err),
     }
 }
