@@ -112,6 +112,7 @@ impl HasEnd for ThreadSeen<'_> {
 }
 
 /// A thread of which it is told where its steps are used up, or nothing.
+#[derive(Drop)]
 struct LongThread {
     is_long: bool,
 }
