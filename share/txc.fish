@@ -66,7 +66,7 @@ complete -c txc -n __fish_use_subcommand -a outcomes -d 'List every possible out
 complete -c txc -n '__fish_seen_subcommand_from outcomes' -F
 complete -c txc -n '__fish_seen_subcommand_from outcomes' -l verbose -d 'Show source lines of faults, and where threads trapped or stopped [default on a terminal], and why a file can'\''t be read'
 complete -c txc -n '__fish_seen_subcommand_from outcomes' -l format -x -a 'short json github' -d 'Report each fault on one line: short is FILE:LINE:COL: error: WORDS [NN], for editors; json is an object; github is an annotation'
-complete -c txc -n '__fish_seen_subcommand_from outcomes' -l threads -x -d 'Number of threads, or a range of numbers as 2..4, 1 to 64 [default: 2]; any: every number, with --always'
+complete -c txc -n '__fish_seen_subcommand_from outcomes' -l threads -x -d 'Number of threads, or a range such as 2..4, 1 to 64 [default: 2]; any: every number, with --always'
 complete -c txc -n '__fish_seen_subcommand_from outcomes' -l steps -x -d 'Limit on the steps of a transaction and the code after it, 0 to 4294967295 [default: 1000000]'
 complete -c txc -n '__fish_seen_subcommand_from outcomes' -l limit -x -d 'Limit on the number of states explored, 0 to 4294967295 [default: 1000000]'
 complete -c txc -n '__fish_seen_subcommand_from outcomes' -l memory -x -d 'Limit on the memory for states and list, in MB, 0 to 4294967295 [default: 1024]'

@@ -91,7 +91,7 @@ pub(crate) fn comparison(alloc: Global, given: &ArgMatches<'_>) -> Result<Compar
     let time = number_given(alloc, given, "time", 0, u32::MAX)?;
     let against = against(alloc, given)?;
     if !are_comparable(threads, &against) {
-        return Err(wrong(alloc, "--expect wants one number of threads"));
+        return Err(wrong(alloc, "--expect needs one number of threads"));
     }
     Ok(Comparison {
         threads,

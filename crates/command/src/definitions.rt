@@ -36,11 +36,11 @@ fn thread_count(name: &str, given: &ArgMatches<'_>) -> Option<u32>
     }
 }
 
-/// Says that a word wants one number of threads.
+/// Says that a word needs one number of threads.
 fn no_single_number(alloc: Global, word: &str) -> UsageFault
     ensures { IsOwn (Unit {0}) result }
 {
-    match format!(in alloc; "-D {word} wants one number of threads") {
+    match format!(in alloc; "-D {word} needs one number of threads") {
         Ok(why) => wrong(alloc, why.as_str()),
         Err(_) => UsageFault::OutOfMemory,
     }

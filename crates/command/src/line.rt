@@ -215,7 +215,7 @@ fn threads_explored<'a>(alloc: Global) -> Arg<'a>
         alloc,
         "threads",
         "T",
-        "Number of threads, or a range of numbers as 2..4, 1 to 64 [default: 2]; any: every number, with --always",
+        "Number of threads, or a range such as 2..4, 1 to 64 [default: 2]; any: every number, with --always",
     )
 }
 

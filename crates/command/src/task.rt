@@ -144,7 +144,7 @@ fn steps(alloc: Global, given: &ArgMatches<'_>) -> Result<Steps, UsageFault>
             order: order_of_steps(alloc, given)?,
         }),
         (_, _, None) => Err(wrong(alloc, "one of --schedule and --seed")),
-        (_, _, Some(_)) => Err(wrong(alloc, "--order wants no --schedule and no --seed")),
+        (_, _, Some(_)) => Err(wrong(alloc, "--order takes no --schedule and no --seed")),
     }
 }
 
@@ -182,9 +182,9 @@ fn replay(alloc: Global, given: &ArgMatches<'_>) -> Result<Task, UsageFault>
                 count,
             }),
             Steps::Order { order } => Ok(Task::PrintOrder { threads, order }),
-            Steps::Schedule { .. } => Err(wrong(alloc, "--print-schedule wants --seed or --order")),
+            Steps::Schedule { .. } => Err(wrong(alloc, "--print-schedule needs --seed or --order")),
         },
-        (_, false, _, Some(_)) => Err(wrong(alloc, "--from wants --picture")),
+        (_, false, _, Some(_)) => Err(wrong(alloc, "--from needs --picture")),
         _ => Err(wrong(alloc, "one of --picture, --print-schedule and --timeline")),
     }
 }

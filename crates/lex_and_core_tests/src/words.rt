@@ -425,15 +425,15 @@ fn pictures() -> &'static [Row] {
         // nothing is drawn
         (
             "txc|replay|--from=401|--order=0|a.c",
-            br#"Err(Wrong { text: "txc: usage: --from wants --picture\n" })"#,
+            br#"Err(Wrong { text: "txc: usage: --from needs --picture\n" })"#,
         ),
         (
             "txc|replay|--from=0|--timeline|--order=0|a.c",
-            br#"Err(Wrong { text: "txc: usage: --from wants --picture\n" })"#,
+            br#"Err(Wrong { text: "txc: usage: --from needs --picture\n" })"#,
         ),
         (
             "txc|replay|--from=1|--print-schedule|--order=0|a.c",
-            br#"Err(Wrong { text: "txc: usage: --from wants --picture\n" })"#,
+            br#"Err(Wrong { text: "txc: usage: --from needs --picture\n" })"#,
         ),
         (
             "txc|replay|--from=1|--picture|--timeline|--order=0|a.c",
@@ -505,7 +505,7 @@ fn refused_replays() -> &'static [Row] {
         ),
         (
             "txc|replay|a.c|--print-schedule|--schedule=s",
-            br#"Err(Wrong { text: "txc: usage: --print-schedule wants --seed or --order\n" })"#,
+            br#"Err(Wrong { text: "txc: usage: --print-schedule needs --seed or --order\n" })"#,
         ),
         (
             "txc|replay|a.c|--steps=5",
@@ -600,15 +600,15 @@ fn refused_replayed_orders() -> &'static [Row] {
     static ROWS: [Row; 10] = [
         (
             "txc|replay|a.c|--order=0|--seed=1",
-            br#"Err(Wrong { text: "txc: usage: --order wants no --schedule and no --seed\n" })"#,
+            br#"Err(Wrong { text: "txc: usage: --order takes no --schedule and no --seed\n" })"#,
         ),
         (
             "txc|replay|a.c|--order=|--schedule=s",
-            br#"Err(Wrong { text: "txc: usage: --order wants no --schedule and no --seed\n" })"#,
+            br#"Err(Wrong { text: "txc: usage: --order takes no --schedule and no --seed\n" })"#,
         ),
         (
             "txc|replay|a.c|--order=0|--schedule=s|--seed=1|--picture",
-            br#"Err(Wrong { text: "txc: usage: --order wants no --schedule and no --seed\n" })"#,
+            br#"Err(Wrong { text: "txc: usage: --order takes no --schedule and no --seed\n" })"#,
         ),
         (
             "txc|replay|a.c|--order=0,,1",
@@ -779,15 +779,15 @@ fn coverages() -> &'static [Row] {
         ),
         (
             "txc|outcomes|a.c|--threads=any",
-            br#"Err(Wrong { text: "txc: usage: --threads any wants --always, and no --final, --refines or --expect\n" })"#,
+            br#"Err(Wrong { text: "txc: usage: --threads any needs --always, and takes no --final, --refines or --expect\n" })"#,
         ),
         (
             "txc|outcomes|a.c|--threads=any|--always=p|--final=p",
-            br#"Err(Wrong { text: "txc: usage: --threads any wants --always, and no --final, --refines or --expect\n" })"#,
+            br#"Err(Wrong { text: "txc: usage: --threads any needs --always, and takes no --final, --refines or --expect\n" })"#,
         ),
         (
             "txc|outcomes|a.c|--threads=any|--always=p|--refines=b.c",
-            br#"Err(Wrong { text: "txc: usage: --threads any wants --always, and no --final, --refines or --expect\n" })"#,
+            br#"Err(Wrong { text: "txc: usage: --threads any needs --always, and takes no --final, --refines or --expect\n" })"#,
         ),
         (
             "txc|outcomes|a.c|--threads=any|--always=p|-D|N=3",
@@ -795,7 +795,7 @@ fn coverages() -> &'static [Row] {
         ),
         (
             "txc|outcomes|a.c|--threads=any|--always=p|-D|N=threads",
-            br#"Err(Wrong { text: "txc: usage: -D N=threads wants one number of threads\n" })"#,
+            br#"Err(Wrong { text: "txc: usage: -D N=threads needs one number of threads\n" })"#,
         ),
         (
             "txc|run|a.c|--threads=any",
@@ -973,7 +973,7 @@ fn definitions() -> &'static [Row] {
         // a range of numbers of threads is no number
         (
             "txc|outcomes|a.c|--threads|2..4|-D|N=threads",
-            br#"Err(Wrong { text: "txc: usage: -D N=threads wants one number of threads\n" })"#,
+            br#"Err(Wrong { text: "txc: usage: -D N=threads needs one number of threads\n" })"#,
         ),
         (
             "txc|check|a.c|-D|N=1|-D|N=1",
