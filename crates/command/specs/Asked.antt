@@ -349,7 +349,7 @@ has_twice (n ∷ ns) = if is_among n ns then true else has_twice ns
 abbrev pub words_defining : List Row → List Text
 words_defining given = unwrap_or (all_of (codes "define") given) []
 
--- the numbers that stand in place of names; without `-D` there are none
+-- the numbers that replace names; without `-D` there are none
 pub record AreDefinitions (name : Text) (given : List Row) (ds : List Definition) : Type 0 where
   pub threads : Option ℕ
   pub counted : IsCountOfThreads name given threads

@@ -32,7 +32,7 @@ pub(crate) fn compares(name: &str, given: &ArgMatches<'_>) -> bool
     name == "outcomes" && (has_text(given, "refines") || has_text(given, "expect"))
 }
 
-/// The file that is given for one of two arguments, where none is for the other and the source isn't standard input too.
+/// The file that is given for one of two arguments, if none is for the other and the source isn't standard input too.
 fn given_alone(
     alloc: Global,
     given: &ArgMatches<'_>,

@@ -1,4 +1,4 @@
-//! Numbers that stand in place of names of sources.
+//! Numbers that replace names of sources.
 
 ghost use Rattle.std.specs.Prelude.{◌≡◌, ◌++◌, ◌∷◌, [], OnOk, List, IfOk, IfErr, MatchOption, false, map};
 ghost use Rattle.std.specs.Prelude.{string_bytes, true};
@@ -97,7 +97,7 @@ fn read(alloc: Global, words: &[&str], threads: Option<u32>) -> Result<Vec<Defin
     Ok(definitions)
 }
 
-/// What the words that are given define.
+/// The definitions that the command line gives.
 fn read_given(
     alloc: Global,
     given: &ArgMatches<'_>,
@@ -139,7 +139,7 @@ fn twice(definitions: &[Definition]) -> Option<&str>
     None
 }
 
-/// What is defined.
+/// The definitions of a command line, each of another name.
 pub(crate) fn definitions(
     alloc: Global,
     name: &str,

@@ -96,7 +96,7 @@ fn refusal(alloc: Global, error: &Error) -> UsageFault
     }
 }
 
-/// What words ask that the command line has.
+/// The request and the definitions of words that the command line accepts.
 fn asked(alloc: Global, matches: &ArgMatches<'_>) -> Result<Asked, UsageFault>
     ensures ok { IfOk result (HasGiven (subcommand_rows_of matches.now)) }
     ensures err { IfErr result (IsOwn ((a : Asked) → HasGiven (subcommand_rows_of matches.now) a → ⊥)) }

@@ -6,7 +6,7 @@ use parameters::Definition;
 use std::alloc::AllocError;
 use thiserror::Error;
 
-/// What words ask: a request, and the numbers that stand in place of names of its sources.
+/// A request, and the numbers that replace names of its sources.
 #[derive(Debug, Drop)]
 pub struct Asked {
     pub request: Request,

@@ -57,7 +57,7 @@ all_of_threads ks n xs all taken =
 -- ---- what an order shows
 
 module _ (p : Program) (code : Code) (typed : IsTypedProgram p) (compiled : IsCodeOf p code) where
-  -- threads are told apart by each register
+  -- threads are distinguished by each register
   setting : IsSetting no_likeness (effect code) (beginning code) p
   setting = record {
     typed = typed;

@@ -62,7 +62,7 @@ lacks_code (Expected file) other text is = refused_text text is
 -- ---- by what outcomes are compared with
 
 module _ (c : Comparison) (file : String Global) (name text : List ℕ) (other : Option (List ℕ)) (same : name ≡ string_bytes file) where
-  -- what is told and written of refinement by a program of this name, for so many numbers of threads after the first
+  -- the meaning of a status and the text written, if outcomes are compared with those of a program of this name
   abbrev pub RefinedTold : (name : List ℕ) → (status : ℕ) → (old new : Option (List ℕ)) → Type 0
   RefinedTold n status old new =
       IfSome other (λ bytes. SaysInTurn (λ k t b a. Tells (SaysRefined n k text bytes) (ShowsOther n k text bytes) t b a) (c.threads.last - c.threads.first) c.threads.first status old new)
@@ -235,7 +235,7 @@ module _ (text other : List ℕ) (this that : ParsedSource) (spelled : IsSourceO
       (says_so (λ k t b a. Tells (SaysRefines name k this.program that.program) (ShowsBeyond name k this.program that.program) t b a) (λ k t b a. Tells (SaysRefined name k text other) (ShowsOther name k text other) t b a) (refined_tells name) more first status old new)
       (part_in_turn (λ k w. IsEither (SaysRefines name k this.program that.program) (ShowsBeyond name k this.program that.program) w) (λ k w. IsEither (SaysRefined name k text other) (ShowsOther name k text other) w) (refined_either name) more first old new)
 
--- what a status tells of it for so many numbers of threads after the first, and what is written
+-- the same for so many numbers of threads after the first
 module _ (name : List ℕ) (text : List ℕ) (more first : ℕ) where
   abbrev pub AreRefinedTold : (bytes : List ℕ) → (status : ℕ) → (old new : Option (List ℕ)) → Type 0
   AreRefinedTold bytes status old new = SaysInTurn (λ k t b a. Tells (SaysRefined name k text bytes) (ShowsOther name k text bytes) t b a) more first status old new

@@ -1,4 +1,4 @@
--- What is served for one number of threads after another.
+-- Answers for one number of threads after another.
 use Rattle.std.proofs.Common.{◌≡◌, ◌≢◌, ◌∙◌, inl, inr, ◌+◌, ◌-◌, ◌<◌, ◌≤◌, ◌++◌, ℕ, zero, suc, List, [], Option, length, take, drop, refl, ap, subst, sym, append_assoc, arith}
 use Rattle.std.specs.Io.KnownBytes.{Appends}
 use Rattle.std.proofs.Math.Seq.{take-append_seam}
@@ -33,7 +33,7 @@ module _ (Is Will : ℕ → List ℕ → Type 0) (so : (n : ℕ) (text : List �
   pub part_in_turn : (more n : ℕ) (old new : Option (List ℕ)) → WritesPart (AreTextsInTurn Is more n) old new → WritesPart (AreTextsInTurn Will more n) old new
   part_in_turn more n old new = part_so (AreTextsInTurn Is more n) (AreTextsInTurn Will more n) old new (texts_so more n)
 
--- ---- the first number is the last one that is asked
+-- ---- the search stops at the first number
 
 pub stops : (Says : (n status : ℕ) → (old new : Option (List ℕ)) → Type 0) (more n status : ℕ) (old new : Option (List ℕ)) → status ≢ 0 → Says n status old new → SaysInTurn Says more n status old new
 stops Says zero n status old new not says = says

@@ -1,4 +1,4 @@
--- What is answered over sources with numbers in place of names.
+-- Answers over sources with numbers in place of names.
 use Rattle.std.proofs.Common.{◌≡◌, ◌≢◌, ◌∙◌, ◌≤◌, ◌<◌, ◌+◌, ◌++◌, ◌∷◌, ◌⊎◌, inl, inr, ℕ, List, [], Bool, true, false, Option, Some, None, length, take, get_or, refl, sym, ap, subst, arith}
 use Rattle.std.specs.Prelude.{Contains, IfSome, IsSomeAnd, if◌then◌else◌, string_bytes}
 use Rattle.std.specs.Str.{bytes_eq}
@@ -15,7 +15,7 @@ use Rattle.serving.specs.Files.{AnswersFiles, Contents, RefusesSource, WritesFor
 use Rattle.serving.specs.Numbers.{AnswersAsked, AreWithNumbers, IsWithNumbers, IsSource, IsUsedInSource, ServesAsked, read_of, sources_of}
 use Rattle.serving.specs.inner.Numbers.{AreUsedIn, contents_with}
 
--- files without numbers are answered as they are
+-- without definitions, files are read unchanged
 pub answered_as_they_are : (asked : Asked) (contents : Contents) (status : ℕ) (old new : Option (List ℕ)) → asked.definitions.items ≡ [] → AnswersFiles asked.request contents status old new → WritesForFiles asked.request contents old new → (status ≡ 1 → RefusesSource asked.request contents) → (status ≡ 1 → new ≡ old) → AnswersAsked asked contents status old new
 answered_as_they_are asked contents status old new none answer written refused untouched = record {
   numbered = contents;

@@ -65,8 +65,8 @@ pub(crate) fn trace<A: Allocator + Copy, W: Write, E: Write>(
     }
 }
 
-/// Replays an order of a source's threads: the program, the schedule of the order, and what the replay leaves. What is
-/// wrong is told, and the error is then the exit status.
+/// Replays an order of a source's threads: the program, the schedule of the order, and what the replay leaves. The
+/// error is the exit status; standard error then says why.
 fn traced<A: Allocator + Copy, E: Write>(
     alloc: A,
     text: &str,
@@ -90,7 +90,7 @@ fn traced<A: Allocator + Copy, E: Write>(
     }
 }
 
-/// The schedule of an order, if a function that is asked may be.
+/// The schedule of an order, unless a function is given that is no property.
 fn lines_asked<A: Allocator + Copy, E: Write>(
     alloc: A,
     compiled: &Compiled<A>,
@@ -108,7 +108,7 @@ fn lines_asked<A: Allocator + Copy, E: Write>(
     }
 }
 
-/// The exit status with which it is told that a function may not be asked, if one is given that may not.
+/// The exit status if a function is given that is no property; standard error then says why.
 fn refuse_property<A: Allocator + Copy, E: Write>(
     alloc: A,
     compiled: &Compiled<A>,
@@ -123,7 +123,7 @@ fn refuse_property<A: Allocator + Copy, E: Write>(
     }
 }
 
-/// Tells where threads trapped, if lines are wanted.
+/// Reports where threads trapped, if lines are wanted.
 fn tell_traps<A: Allocator + Copy, E: Write>(
     alloc: A,
     text: &str,

@@ -65,7 +65,7 @@ impl Files for OddFiles {
     }
 }
 
-/// The status, what is told, and how many bytes of each file were read.
+/// The status, the message, and how many bytes of each file were read.
 fn read_for<H: Threads + Wait + Clock + Sync>(
     rt: &H,
     alloc: Global,

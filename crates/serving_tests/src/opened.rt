@@ -353,7 +353,7 @@ fn rows() -> &'static [Row] {
             false,
             (4, b"", b"txc: a.c: stopped at the time\n"),
         ),
-        // numbers stand in place of names, of name tokens alone
+        // numbers replace name tokens alone
         (
             "txc source a.c --order 0 -D N=-3 -D W=7",
             Ok(

@@ -1,4 +1,4 @@
--- What is answered to words that are told why they are no request.
+-- The answer to words that are no request.
 use Rattle.std.proofs.Common.{◌≡◌, ◌⊎◌, inl, inr, ℕ, List, Option, None, Some, refl, subst}
 use Rattle.command.specs.Tests.{RefusesJob, WantJob}
 use Rattle.command.specs.declared.request.Asked.{Asked}

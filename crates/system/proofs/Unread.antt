@@ -1,4 +1,4 @@
--- What is answered if a file could not be read.
+-- The answer if a file could not be read.
 use Rattle.std.proofs.Common.{◌≡◌, ◌⊎◌, ◌∷◌, inl, inr, ℕ, List, [], Option, None, refl, arith}
 use Rattle.command.specs.declared.request.Asked.{Asked}
 use Rattle.command.specs.declared.request.Request.{Request}

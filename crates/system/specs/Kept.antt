@@ -48,6 +48,6 @@ AreKnown (Cover file verbose format coverage) contents = IsFileKnown contents (s
 AreKnown (Explain number) contents = Unit {0}
 AreKnown (ExplainEnd word number) contents = Unit {0}
 
--- the bytes of each file that are known stay as they are
+-- the bytes of each file that are known stay the same
 abbrev pub StayKnown : (old new : Contents) → Type 0
 StayKnown old new = (name : List ℕ) → IsFileKnown old name → new name ≡ old name

@@ -20,7 +20,7 @@ pub struct KeptFile {
     pub bytes: Vec<u8>,
 }
 
-/// The bytes of the file of a name, if it is kept. Of two with one name the first is taken.
+/// The bytes of the file of a name, if it is kept. If two have this name, it is the first one.
 pub(crate) fn bytes_of<'k>(files: &'k [KeptFile], name: &str) -> Option<&'k [u8]>
     ensures { option_map (λ s. s.now) result ≡ kept_in files.now name.now }
 {
@@ -66,7 +66,7 @@ struct NamedFile<'n> {
     name: &'n str,
     /// Whether it is to be a source. Then no more of it is read than shows that it is too long.
     is_source: bool,
-    /// Whether the reason is told if it can't be read.
+    /// Whether the reason is reported if it can't be read.
     verbose: bool,
 }
 
@@ -140,7 +140,7 @@ fn read_into<F: Files>(
     Ok(())
 }
 
-/// Reads a file and keeps it. If it can't be read, that is told, and the error is then the exit status.
+/// Reads a file and keeps it. The error is the exit status; standard error then says why.
 fn keep<F: Files, E: Write>(
     alloc: Global,
     named: &NamedFile<'_>,
@@ -164,7 +164,7 @@ fn keep<F: Files, E: Write>(
     }
 }
 
-/// Reads the files that a request names. If one can't be read, that is told, and the error is then the exit status.
+/// Reads the files that a request names. The error is the exit status; standard error then says why.
 pub(crate) fn keep_files<F: Files, E: Write>(
     alloc: Global,
     request: &Request,

@@ -35,7 +35,7 @@ pub struct Answer<W> {
     pub out: W,
 }
 
-/// What was answered, but for the files.
+/// An answer without the files.
 #[derive(Drop)]
 struct Served<W> {
     status: u8,
@@ -43,7 +43,7 @@ struct Served<W> {
     out: W,
 }
 
-/// Does what is asked, over files that are kept.
+/// Answers a request over files that are kept.
 fn serve_kept<
     B: Begun,
     H: Threads + Wait + Clock + Sync,

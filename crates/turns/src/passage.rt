@@ -43,7 +43,8 @@ pub(crate) fn closes(kind: Kind<'_>) -> bool {
     )
 }
 
-/// Whether a token after a transaction's keyword opens its body: a brace does, and a parenthesis right after the keyword.
+/// Whether a token after a transaction's keyword opens its body: a brace does, and a parenthesis directly after the
+/// keyword.
 fn opens_body(kind: Kind<'_>, is_next: bool) -> bool {
     match kind {
         Kind::Punctuator(Punctuator::OpenBrace) => true,

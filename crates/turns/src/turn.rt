@@ -110,7 +110,7 @@ pub(crate) fn status_of<A: Allocator + Copy>(world: &World<A>, t: u32) -> Status
     }
 }
 
-/// What a thread has printed; one that there is not has printed nothing.
+/// The output of a thread, which is empty if there is no such thread.
 fn output_of<A: Allocator + Copy>(world: &World<A>, t: u32) -> &str {
     if t < world.threads() {
         world.output(t)

@@ -68,8 +68,8 @@ fn ends_of<A: Allocator + Copy>(alloc: A, world: &World<A>) -> Result<Vec<Status
     Ok(ends)
 }
 
-/// Shows the turns of an order of so many threads of a code, by the schedule of the order: a line that brings each thread
-/// to its first transaction, and one for each turn. The places are those of the source.
+/// Shows the turns of an order of so many threads of a code, by the schedule of the order: a line that brings each
+/// thread to its first transaction, and one for each turn. The places are those of the source.
 pub fn turns_shown<A: Allocator + Copy>(
     alloc: A,
     code: &Code<A>,
