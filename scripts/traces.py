@@ -46,7 +46,7 @@ def texts_of(report):
 
 
 def unfolded(rows):
-    """Rows of turns, with those that a row `turns A to B, N times` stands for."""
+    """Rows of turns, with those that a row `turns A to B, N times` leaves out."""
     every = []
     for row in rows:
         fold = FOLD.match(row[0])

@@ -57,7 +57,7 @@ complete -c txc -n '__fish_seen_subcommand_from trace' -l help -d 'Print help'
 complete -c txc -n __fish_use_subcommand -a explore -d 'Write an HTML page on which every order of transactions can be played, turn by turn'
 complete -c txc -n '__fish_seen_subcommand_from explore' -F
 complete -c txc -n '__fish_seen_subcommand_from explore' -l verbose -d 'Show source lines of faults, and where threads trapped or stopped [default on a terminal], and why a file can'\''t be read'
-complete -c txc -n '__fish_seen_subcommand_from explore' -l format -x -a 'short json' -d 'Report each fault on one line: short is FILE:LINE:COL: error: WORDS [NN], for editors; json is an object'
+complete -c txc -n '__fish_seen_subcommand_from explore' -l format -x -a 'short json github' -d 'Report each fault on one line: short is FILE:LINE:COL: error: WORDS [NN], for editors; json is an object; github is an annotation'
 complete -c txc -n '__fish_seen_subcommand_from explore' -l threads -x -d 'Number of threads, 1 to 64 [default: 2]'
 complete -c txc -n '__fish_seen_subcommand_from explore' -l order -x -d 'Order of transactions: thread numbers joined by commas, as 0,1,0, or an empty word'
 complete -c txc -n '__fish_seen_subcommand_from explore' -l always -x -d 'Functions `int NAME(void)` of FILE whose values the page shows in every state; names are joined by commas'
