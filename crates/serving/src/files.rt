@@ -122,7 +122,7 @@ pub fn serve_files<
             coverage,
         } => {
             let detail = Detail::of(file.as_str(), *verbose, *format, err.is_terminal());
-            let mut timed = Timed::new(err, rt);
+            let mut timed = Timed::new(err, rt, None);
             let mut teller = Teller::new(&mut timed, detail);
             open_covered(alloc, file.as_str(), coverage, files, out, &mut teller)
         }
