@@ -12,6 +12,6 @@ mod turn;
 mod turns;
 mod view;
 
-pub use passage::Source;
+pub use passage::{Source, push_passage};
 pub use turns::{Traced, turns_shown};
 pub use view::{Asked, Form, Standing, View, view_text};
