@@ -61,7 +61,7 @@ impl<'a> Detail<'a> {
             },
             traces: match format {
                 Format::Plain => is_terminal,
-                Format::Short | Format::Json => false,
+                Format::Short | Format::Json | Format::Github => false,
             },
         }
     }
