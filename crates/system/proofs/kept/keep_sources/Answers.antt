@@ -1,0 +1,5 @@
+use Rattle.std.proofs.Common.{None}
+use Rattle.system.proofs.kept.keep_sources.Goals as goal
+
+pub names-preserved : goal.names-preserved
+names-preserved g c = c.in_ok-keep.ensures.read None (λ is. tt) c.names.invariant
