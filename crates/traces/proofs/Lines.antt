@@ -1,5 +1,5 @@
 -- One step of a loop that adds lines to a trace, or goes over turns.
-use Rattle.std.proofs.Common.{◌≡◌, ℕ, suc, ◌+◌, ◌<◌, true, false, List, [], ◌∷◌, ◌++◌, map, length, drop, get_or, ap, sym, refl, append_assoc, add-one, drop-cons}
+use Rattle.std.proofs.Common.{◌≡◌, ℕ, suc, ◌+◌, ◌<◌, true, false, List, [], ◌∷◌, ◌++◌, map, length, drop, get_or, ap, sym, refl, append_assoc, add-one, drop-cons, ◌≤◌, ◌-◌, take, take_all, length-drop, arith}
 use Rattle.std.specs.Prelude.{flat_map}
 use Rattle.traces.specs.Trace.{are_blanks, trimmed}
 
@@ -34,6 +34,13 @@ next_numbered view line after lines cons xs i n m x before now whole e h was new
     let split = drop_here xs i x e h in
     let at_here = rw (split, cons n (view x) (map view (drop (i + 1) xs))) at was in
     rw (new, next, append_assoc before) at_here
+
+-- a slice from an element on is what follows it
+pub rest_taken : (xs : List ℕ) (i : ℕ) → take (length xs - i) (drop i xs) ≡ drop i xs
+rest_taken xs i =
+    let same = length-drop i xs in
+    let all : length (drop i xs) ≤ length xs - i = omega (arith, same) in
+    take_all (length xs - i) (drop i xs) all
 
 -- nothing is left of blanks
 pub all_trimmed : (xs : List ℕ) → are_blanks xs ≡ true → trimmed xs ≡ []

@@ -8,4 +8,4 @@ use Rattle.traces.proofs.trace.push_turns.Goals as goal
 pub turns-preserved : goal.turns-preserved
 turns-preserved g s =
     let columns = map column_of s.args.columns.now in
-    next_numbered turn_of (counted_lines columns) (λ n (t : TurnShown). number_after n t.fold) (turn_lines columns) (λ n y ys. refl) s.args.turns.now s.turns.turn-index s.turns.number _ s.turn-item.result s.turns.text.items _ _ s.turn-item.is s.turns-test.true s.turns.invariant s.in_ok-push_counted.ensures s.in_ok-number_after.ensures
+    next_numbered turn_of (counted_lines columns) (λ n (t : TurnShown). number_after n t.fold) (turn_lines columns) (λ n y ys. refl) s.args.turns.now s.turns.turn-index s.turns.number _ s.turn-item.result s.turns.text.items _ _ s.turn-item.is s.turns-test.true s.turns.invariant s.in_ok-push_counted.ensures s.in_ok-number.ensures
