@@ -148,6 +148,10 @@ fn orders() -> &'static [Row] {
             br#"Ok(Program { file: "a.c", verbose: true, format: Plain, task: Trace { threads: 3, order: [], property: Some("p"), in_full: false } })"#,
         ),
         (
+            "txc|trace|--full|a.c|--order=1",
+            br#"Ok(Program { file: "a.c", verbose: false, format: Plain, task: Trace { threads: 2, order: [1], property: None, in_full: true } })"#,
+        ),
+        (
             "txc|source|--order||--threads|2|a.c",
             br#"Ok(Program { file: "a.c", verbose: false, format: Plain, task: Source { threads: 2, order: [], ticks: 100000 } })"#,
         ),
@@ -182,7 +186,7 @@ fn reads_orders(rt: HostRuntime) {
 }
 
 fn outcomes() -> &'static [Row] {
-    static ROWS: [Row; 13] = [
+    static ROWS: [Row; 14] = [
         (
             "txc|outcomes|a.c",
             br#"Ok(Program { file: "a.c", verbose: false, format: Plain, task: Outcomes { threads: ThreadRange { first: 2, last: 2 }, steps: 1000000, limit: 1000000, memory: 1024, time: None, traces: false } })"#,
@@ -194,6 +198,10 @@ fn outcomes() -> &'static [Row] {
         (
             "txc|outcomes|a.c|--limit|0|--steps|0|--threads|2",
             br#"Ok(Program { file: "a.c", verbose: false, format: Plain, task: Outcomes { threads: ThreadRange { first: 2, last: 2 }, steps: 0, limit: 0, memory: 1024, time: None, traces: false } })"#,
+        ),
+        (
+            "txc|outcomes|--trace|a.c|--format=json",
+            br#"Ok(Program { file: "a.c", verbose: false, format: Json, task: Outcomes { threads: ThreadRange { first: 2, last: 2 }, steps: 1000000, limit: 1000000, memory: 1024, time: None, traces: true } })"#,
         ),
         (
             "txc|outcomes|--threads=0|a.c",
@@ -733,7 +741,7 @@ fn reads_comparisons(rt: HostRuntime) {
 
 /// Functions that are asked whether they hold.
 fn questions() -> &'static [Row] {
-    static ROWS: [Row; 7] = [
+    static ROWS: [Row; 8] = [
         (
             "txc|outcomes|a.c|--always|p",
             br#"Ok(Ask { file: "a.c", verbose: false, format: Plain, questions: Questions { threads: ThreadRange { first: 2, last: 2 }, steps: 1000000, limit: 1000000, memory: 1024, time: None, always: Some("p"), last: None, keeps_going: false, traces: false } })"#,
@@ -745,6 +753,10 @@ fn questions() -> &'static [Row] {
         (
             "txc|outcomes|a.c|--keep-going|--always=p",
             br#"Ok(Ask { file: "a.c", verbose: false, format: Plain, questions: Questions { threads: ThreadRange { first: 2, last: 2 }, steps: 1000000, limit: 1000000, memory: 1024, time: None, always: Some("p"), last: None, keeps_going: true, traces: false } })"#,
+        ),
+        (
+            "txc|outcomes|a.c|--trace|--final=p",
+            br#"Ok(Ask { file: "a.c", verbose: false, format: Plain, questions: Questions { threads: ThreadRange { first: 2, last: 2 }, steps: 1000000, limit: 1000000, memory: 1024, time: None, always: None, last: Some("p"), keeps_going: false, traces: true } })"#,
         ),
         (
             "txc|outcomes|-|--final=|--always=p,p",

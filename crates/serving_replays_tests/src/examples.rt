@@ -295,7 +295,7 @@ fn first_transcripts() -> &'static [Transcript] {
             b"// A property may trap, for example by a division by 0, or may never end.\nint sum, count, steps = 1;\n\nint average_is_small(void) { return sum / count < 10; }\n\nint comes_to_an_end(void) {\n    int i = 0;\n    while (i != count * 2) i = i + 2 * steps;\n    return 1;\n}\n\nvoid worker(int self) {\n    __transaction_atomic { sum = sum + self; }\n    __transaction_atomic { count = count + 1; }\n    __transaction_atomic { steps = 0; }\n}\n\n// txc: --threads 2 --always average_is_small,comes_to_an_end --steps 1000 (fails)\n",
             b"",
             b"",
-            b"== not average_is_small --order ''\n== thread 0: waits\n== thread 1: waits\n== memory\nsum = 0\ncount = 0\nsteps = 1\n== spent comes_to_an_end --order 0,0,0\n== thread 0: ended\n== thread 1: waits\n== memory\nsum = 0\ncount = 1\nsteps = 0\ntxc: each property has its answer, so the search stopped; --keep-going continues it\n",
+            b"== not average_is_small --order ''\n== thread 0: waits\n== thread 1: waits\n== memory\nsum = 0\ncount = 0\nsteps = 1\n== spent comes_to_an_end --order 0,0,0\n== thread 0: ended\n== thread 1: waits\n== memory\nsum = 0\ncount = 1\nsteps = 0\ntxc: each property has its answer, so the search stopped; --keep-going continues it\ntxc: with --order ''\nturn thread at\nthread 0: next at 13:5: sum = sum + self\nthread 1: next at 13:5: sum = sum + self\nproperty average_is_small: fails: sum = 0, count = 0\n",
         ),
         (
             "txc outcomes examples/properties/bank.c --threads 3 --always kept,covered",
@@ -309,7 +309,7 @@ fn first_transcripts() -> &'static [Transcript] {
             b"// Money leaves one account in one transaction and enters the next one in another: in between it is missing.\nint account[3] = {20, 20, 20};\n\nint kept(void) {\n    int i, sum = 0;\n    for (i = 0; i < 3; i++) sum = sum + account[i];\n    return sum == 60;\n}\n\nvoid worker(int self) {\n    int i, free, from = self % 3, to = (self + 1) % 3;\n    for (i = 0; i < 2; i++) {\n        __transaction_atomic { free = account[from] >= 10; if (free) account[from] = account[from] - 10; }\n        if (free) __transaction_atomic { account[to] = account[to] + 10; }\n    }\n}\n\n// txc: --threads 2 --final kept\n// txc: --threads 2 --always kept (fails)\n",
             b"",
             b"",
-            b"== not kept --order 0\n== thread 0: waits\n== thread 1: waits\n== memory\naccount = 10 20 20\n== final kept: outcomes 1, threads: 2\n",
+            b"== not kept --order 0\n== thread 0: waits\n== thread 1: waits\n== memory\naccount = 10 20 20\n== final kept: outcomes 1, threads: 2\ntxc: with --order 0\nturn thread at     account[0]\n                           20\n   1      0 13:9          >10   free = account[from] >= 10; if (free) ..\nthread 0: next at 14:19: account[to] = account[to] + 10\nthread 1: next at 13:9: free = account[from] >= 10; if (free) ..\nproperty kept: fails: account = 10 20 20\n",
         ),
         (
             "txc outcomes examples/properties/lock.c --threads 3 --always alone",
@@ -323,7 +323,7 @@ fn first_transcripts() -> &'static [Transcript] {
             b"// A lock that is tested in one transaction and taken in the next: two threads may find it free.\nint taken, inside, entered;\n\nint alone(void) { return inside <= 1; }\n\nvoid worker(int self) {\n    int mine = 0;\n    while (!mine) {\n        __transaction_atomic { mine = !taken; }\n    }\n    __transaction_atomic { taken = 1; }\n    __transaction_atomic { inside = inside + 1; }\n    __transaction_atomic { inside = inside - 1; entered = entered + 1; }\n    __transaction_atomic { taken = 0; }\n}\n\n// txc: --threads 2 --always alone (fails)\n",
             b"",
             b"",
-            b"== not alone --order 0,1,0,0,1,1\n== thread 0: waits\n== thread 1: waits\n== memory\ntaken = 1\ninside = 2\nentered = 0\ntxc: each property has its answer, so the search stopped; --keep-going continues it\n",
+            b"== not alone --order 0,1,0,0,1,1\n== thread 0: waits\n== thread 1: waits\n== memory\ntaken = 1\ninside = 2\nentered = 0\ntxc: each property has its answer, so the search stopped; --keep-going continues it\ntxc: with --order 0,1,0,0,1,1\nturn thread at     taken inside\n                       0      0\n   1      0 9:9        0      .   mine = !taken\n   2      1 9:9        0      .   mine = !taken\n   3      0 11:5      >1      .   taken = 1\n   4      0 12:5       .     >1   inside = inside + 1\n   5      1 11:5      >1      .   taken = 1\n   6      1 12:5       .     >2   inside = inside + 1\nthread 0: next at 13:5: inside = inside - 1; entered = entered + ..\nthread 1: next at 13:5: inside = inside - 1; entered = entered + ..\nproperty alone: fails: inside = 2\n",
         ),
         (
             "txc outcomes examples/properties/lock.c --threads 2..4 --always alone",
@@ -344,7 +344,7 @@ fn first_transcripts() -> &'static [Transcript] {
             b"// Philosophers who take the left fork in one transaction and the right one in the next: each may hold one and wait.\nint taken[3], eating[3], meals;\n\nint neighbours_wait(void) {\n    return !(eating[0] && eating[1]) && !(eating[1] && eating[2]) && !(eating[2] && eating[0]);\n}\n\nvoid take(int fork) {\n    int mine = 0;\n    while (!mine) {\n        __transaction_atomic { mine = !taken[fork]; if (mine) taken[fork] = 1; }\n    }\n}\n\nvoid worker(int self) {\n    int left = self % 3, right = (self + 1) % 3;\n    take(left);\n    take(right);\n    __transaction_atomic { eating[left] = 1; }\n    __transaction_atomic { eating[left] = 0; meals = meals + 1; }\n    __transaction_atomic { taken[left] = 0; taken[right] = 0; }\n}\n\n// txc: --threads 2 --always neighbours_wait\n// txc: --threads 3 --always neighbours_wait (stuck)\n",
             b"",
             b"",
-            b"== always neighbours_wait: states 81, threads: 3\n== stuck --order 0,1,2\n== thread 0: waits\n== thread 1: waits\n== thread 2: waits\n== memory\ntaken = 1 1 1\neating = 0 0 0\nmeals = 0\ntxc: with --order 0,1,2\ntxc: thread 0: waits at 11:9\n        __transaction_atomic { mine = !taken[fork]; if (mine) taken[fork] = 1; }\n        ^^^^^^^^^^^^^^^^^^^^\ntxc: thread 1: waits at 11:9\ntxc: thread 2: waits at 11:9\n",
+            b"== always neighbours_wait: states 81, threads: 3\n== stuck --order 0,1,2\n== thread 0: waits\n== thread 1: waits\n== thread 2: waits\n== memory\ntaken = 1 1 1\neating = 0 0 0\nmeals = 0\ntxc: with --order 0,1,2\ntxc: thread 0: waits at 11:9\n        __transaction_atomic { mine = !taken[fork]; if (mine) taken[fork] = 1; }\n        ^^^^^^^^^^^^^^^^^^^^\ntxc: thread 1: waits at 11:9\ntxc: thread 2: waits at 11:9\ntxc: with --order 0,1,2\nturn thread at     taken[0] taken[1] taken[2]\n                          0        0        0\n   1      0 11:9         >1        .        .   mine = !taken[fork]; if (mine) taken[ ..\n   2      1 11:9          .       >1        .   mine = !taken[fork]; if (mine) taken[ ..\n   3      2 11:9          .        .       >1   mine = !taken[fork]; if (mine) taken[ ..\nthread 0: next at 11:9: mine = !taken[fork]; if (mine) taken[ ..\nthread 1: next at 11:9: mine = !taken[fork]; if (mine) taken[ ..\nthread 2: next at 11:9: mine = !taken[fork]; if (mine) taken[ ..\n",
         ),
         (
             "txc outcomes examples/properties/queue.c --threads 4 --always within --final all_taken",
@@ -358,7 +358,7 @@ fn first_transcripts() -> &'static [Transcript] {
             b"// One transaction checks for a free place and the next one fills it: two threads may fill the last one.\nint slots[2], head, count, sum;\n\nint within(void) { return count >= 0 && count <= 2; }\n\nvoid worker(int self) {\n    int i, done;\n    for (i = 1; i <= 2; i++) {\n        __transaction_atomic { done = count < 2; }\n        if (done) {\n            __transaction_atomic { slots[(head + count) % 2] = i; count = count + 1; }\n        }\n    }\n    __transaction_atomic {\n        if (count > 0) { sum = sum + slots[head]; head = (head + 1) % 2; count = count - 1; }\n    }\n}\n\n// txc: --threads 2..3 --always within (fails)\n",
             b"",
             b"",
-            b"== not within --order 0,0,0,1,0,1\n== thread 0: waits\n== thread 1: waits\n== memory\nslots = 1 2\nhead = 0\ncount = 3\nsum = 0\ntxc: each property has its answer, so the search stopped; --keep-going continues it\n",
+            b"== not within --order 0,0,0,1,0,1\n== thread 0: waits\n== thread 1: waits\n== memory\nslots = 1 2\nhead = 0\ncount = 3\nsum = 0\ntxc: each property has its answer, so the search stopped; --keep-going continues it\ntxc: with --order 0,0,0,1,0,1\nturn thread at     slots[0] slots[1] head count\n                          0        0    0     0\n   1      0 9:9           .        .    .     0   done = count < 2\n   2      0 11:13        >1        .    0    >1   slots[(head + count) % 2] = i; count = ..\n   3      0 9:9           .        .    .     1   done = count < 2\n   4      1 9:9           .        .    .     1   done = count < 2\n   5      0 11:13         .       >2    0    >2   slots[(head + count) % 2] = i; count = ..\n   6      1 11:13        >1        .    0    >3   slots[(head + count) % 2] = i; count = ..\nthread 0: next at 14:5: if (count > 0) { sum = sum + slots[head ..\nthread 1: next at 9:9: done = count < 2\nproperty within: fails: count = 3\n",
         ),
         (
             "txc outcomes examples/properties/lock.c --always alone,free",
@@ -379,7 +379,7 @@ fn first_transcripts() -> &'static [Transcript] {
             b"// Two seats, and buyers who check in one transaction and buy in the next: three of them can buy three seats.\nint seats = 2, sold;\n\nint no_seat_twice(void) { return sold + seats == 2 && seats >= 0; }\n\nvoid worker(int self) {\n    int free;\n    __transaction_atomic { free = seats > 0; }\n    if (free) {\n        __transaction_atomic {\n            seats = seats - 1;\n            sold = sold + 1;\n        }\n    }\n}\n\n// txc: --threads 2 --always no_seat_twice\n// txc: --threads 3 --always no_seat_twice (fails)\n",
             b"",
             b"",
-            b"== not no_seat_twice --order 0,0,1,2,1,2\n== thread 0: ended\n== thread 1: ended\n== thread 2: ended\n== memory\nseats = -1\nsold = 3\ntxc: each property has its answer, so the search stopped; --keep-going continues it\n",
+            b"== not no_seat_twice --order 0,0,1,2,1,2\n== thread 0: ended\n== thread 1: ended\n== thread 2: ended\n== memory\nseats = -1\nsold = 3\ntxc: each property has its answer, so the search stopped; --keep-going continues it\ntxc: with --order 0,0,1,2,1,2\nturn thread at     seats sold\n                       2    0\n   1      0 8:5        2    .   free = seats > 0\n   2      0 10:9      >1   >1   seats = seats - 1; sold = sold + 1  ended\n   3      1 8:5        1    .   free = seats > 0\n   4      2 8:5        1    .   free = seats > 0\n   5      1 10:9      >0   >2   seats = seats - 1; sold = sold + 1  ended\n   6      2 10:9     >-1   >3   seats = seats - 1; sold = sold + 1  ended\nthread 0: ended\nthread 1: ended\nthread 2: ended\nproperty no_seat_twice: fails: seats = -1, sold = 3\n",
         ),
         (
             "txc outcomes examples/properties/seats_broken.c --threads 2 --always no_seat_twice",
@@ -393,7 +393,7 @@ fn first_transcripts() -> &'static [Transcript] {
             b"// Two seats, and buyers who check in one transaction and buy in the next: three of them can buy three seats.\nint seats = 2, sold;\n\nint no_seat_twice(void) { return sold + seats == 2 && seats >= 0; }\n\nvoid worker(int self) {\n    int free;\n    __transaction_atomic { free = seats > 0; }\n    if (free) {\n        __transaction_atomic {\n            seats = seats - 1;\n            sold = sold + 1;\n        }\n    }\n}\n\n// txc: --threads 2 --always no_seat_twice\n// txc: --threads 3 --always no_seat_twice (fails)\n",
             b"",
             b"",
-            b"== always no_seat_twice: states 9, threads: 2\n== not no_seat_twice --order 0,0,1,2,1,2\n== thread 0: ended\n== thread 1: ended\n== thread 2: ended\n== memory\nseats = -1\nsold = 3\ntxc: each property has its answer, so the search stopped; --keep-going continues it\n",
+            b"== always no_seat_twice: states 9, threads: 2\n== not no_seat_twice --order 0,0,1,2,1,2\n== thread 0: ended\n== thread 1: ended\n== thread 2: ended\n== memory\nseats = -1\nsold = 3\ntxc: each property has its answer, so the search stopped; --keep-going continues it\ntxc: with --order 0,0,1,2,1,2\nturn thread at     seats sold\n                       2    0\n   1      0 8:5        2    .   free = seats > 0\n   2      0 10:9      >1   >1   seats = seats - 1; sold = sold + 1  ended\n   3      1 8:5        1    .   free = seats > 0\n   4      2 8:5        1    .   free = seats > 0\n   5      1 10:9      >0   >2   seats = seats - 1; sold = sold + 1  ended\n   6      2 10:9     >-1   >3   seats = seats - 1; sold = sold + 1  ended\nthread 0: ended\nthread 1: ended\nthread 2: ended\nproperty no_seat_twice: fails: seats = -1, sold = 3\n",
         ),
     ];
     &ROWS
@@ -573,7 +573,7 @@ fn third_transcripts() -> &'static [Transcript] {
             b"// Two locks, which the threads take in opposite orders: each can hold one and wait for the other.\nint locked[2], done;\n\nvoid take(int which) {\n    int mine = 0;\n    while (!mine) {\n        __transaction_atomic { mine = !locked[which]; if (mine) locked[which] = 1; }\n    }\n}\n\nvoid worker(int self) {\n    take(self);\n    take(1 - self);\n    __transaction_atomic { done = done + 1; locked[0] = 0; locked[1] = 0; }\n}\n",
             b"",
             b"",
-            b"== outcome --order 0,0,0,1,1,1\n== thread 0: ended\n== thread 1: ended\n== memory\nlocked = 0 0\ndone = 2\n== stuck --order 0,1\n== thread 0: waits\n== thread 1: waits\n== memory\nlocked = 1 1\ndone = 0\n== outcomes: 1, stuck: 1, states: 13, threads: 2\ntxc: with --order 0,1\ntxc: thread 0: waits at 7:9\n        __transaction_atomic { mine = !locked[which]; if (mine) locked[which] = 1; }\n        ^^^^^^^^^^^^^^^^^^^^\ntxc: thread 1: waits at 7:9\n",
+            b"== outcome --order 0,0,0,1,1,1\n== thread 0: ended\n== thread 1: ended\n== memory\nlocked = 0 0\ndone = 2\n== stuck --order 0,1\n== thread 0: waits\n== thread 1: waits\n== memory\nlocked = 1 1\ndone = 0\n== outcomes: 1, stuck: 1, states: 13, threads: 2\ntxc: with --order 0,1\ntxc: thread 0: waits at 7:9\n        __transaction_atomic { mine = !locked[which]; if (mine) locked[which] = 1; }\n        ^^^^^^^^^^^^^^^^^^^^\ntxc: thread 1: waits at 7:9\ntxc: with --order 0,1\nturn thread at     locked[0] locked[1]\n                           0         0\n   1      0 7:9           >1         .   mine = !locked[which]; if (mine) locked ..\n   2      1 7:9            .        >1   mine = !locked[which]; if (mine) locked ..\nthread 0: next at 7:9: mine = !locked[which]; if (mine) locked ..\nthread 1: next at 7:9: mine = !locked[which]; if (mine) locked ..\n",
         ),
         (
             "txc outcomes examples/receipt.c --threads 2",
@@ -594,14 +594,14 @@ fn third_transcripts() -> &'static [Transcript] {
             b"// As seats.c, with a check: if the seat is sold twice, a division by 0 ends the thread.\nint seats = 1, sold;\n\nvoid worker(int self) {\n    int free;\n    __transaction_atomic { free = seats > 0; }\n    if (free) {\n        __transaction_atomic {\n            seats = seats - 1;\n            sold = sold + 1;\n            free = 1 / (sold <= 1);\n        }\n    }\n}\n",
             b"",
             b"",
-            b"== outcome --order 0,0,1\n== thread 0: ended\n== thread 1: ended\n== memory\nseats = 0\nsold = 1\n== outcome --order 0,1,0,1\n== thread 0: ended\n== thread 1: trap 2\n== memory\nseats = 0\nsold = 1\n== outcome --order 0,1,1,0\n== thread 0: trap 2\n== thread 1: ended\n== memory\nseats = 0\nsold = 1\n== outcomes: 3, stuck: 0, states: 11, threads: 2\ntxc: with --order 0,1,0,1\ntxc: thread 1: trap 2 at 11:20: the divisor of 1 / 0 is 0\n            free = 1 / (sold <= 1);\n                   ^^^^^^^^^^^^^^^\n",
+            b"== outcome --order 0,0,1\n== thread 0: ended\n== thread 1: ended\n== memory\nseats = 0\nsold = 1\n== outcome --order 0,1,0,1\n== thread 0: ended\n== thread 1: trap 2\n== memory\nseats = 0\nsold = 1\n== outcome --order 0,1,1,0\n== thread 0: trap 2\n== thread 1: ended\n== memory\nseats = 0\nsold = 1\n== outcomes: 3, stuck: 0, states: 11, threads: 2\ntxc: with --order 0,1,0,1\ntxc: thread 1: trap 2 at 11:20: the divisor of 1 / 0 is 0\n            free = 1 / (sold <= 1);\n                   ^^^^^^^^^^^^^^^\ntxc: with --order 0,1,0,1\nturn thread at     seats sold\n                       1    0\n   1      0 6:5        1    .   free = seats > 0\n   2      1 6:5        1    .   free = seats > 0\n   3      0 8:9       >0   >1   seats = seats - 1; sold = sold + 1; free ..  ended\n   4      1 8:9        0    1   seats = seats - 1; sold = sold + 1; free ..  trap 2\nthread 0: ended\nthread 1: trap 2 at 11:20\n",
         ),
         (
             "txc outcomes examples/seats_checked.c --threads 2 --verbose",
             b"// As seats.c, with a check: if the seat is sold twice, a division by 0 ends the thread.\nint seats = 1, sold;\n\nvoid worker(int self) {\n    int free;\n    __transaction_atomic { free = seats > 0; }\n    if (free) {\n        __transaction_atomic {\n            seats = seats - 1;\n            sold = sold + 1;\n            free = 1 / (sold <= 1);\n        }\n    }\n}\n",
             b"",
             b"",
-            b"== outcome --order 0,0,1\n== thread 0: ended\n== thread 1: ended\n== memory\nseats = 0\nsold = 1\n== outcome --order 0,1,0,1\n== thread 0: ended\n== thread 1: trap 2\n== memory\nseats = 0\nsold = 1\n== outcome --order 0,1,1,0\n== thread 0: trap 2\n== thread 1: ended\n== memory\nseats = 0\nsold = 1\n== outcomes: 3, stuck: 0, states: 11, threads: 2\ntxc: with --order 0,1,0,1\ntxc: thread 1: trap 2 at 11:20: the divisor of 1 / 0 is 0\n            free = 1 / (sold <= 1);\n                   ^^^^^^^^^^^^^^^\n",
+            b"== outcome --order 0,0,1\n== thread 0: ended\n== thread 1: ended\n== memory\nseats = 0\nsold = 1\n== outcome --order 0,1,0,1\n== thread 0: ended\n== thread 1: trap 2\n== memory\nseats = 0\nsold = 1\n== outcome --order 0,1,1,0\n== thread 0: trap 2\n== thread 1: ended\n== memory\nseats = 0\nsold = 1\n== outcomes: 3, stuck: 0, states: 11, threads: 2\ntxc: with --order 0,1,0,1\ntxc: thread 1: trap 2 at 11:20: the divisor of 1 / 0 is 0\n            free = 1 / (sold <= 1);\n                   ^^^^^^^^^^^^^^^\ntxc: with --order 0,1,0,1\nturn thread at     seats sold\n                       1    0\n   1      0 6:5        1    .   free = seats > 0\n   2      1 6:5        1    .   free = seats > 0\n   3      0 8:9       >0   >1   seats = seats - 1; sold = sold + 1; free ..  ended\n   4      1 8:9        0    1   seats = seats - 1; sold = sold + 1; free ..  trap 2\nthread 0: ended\nthread 1: trap 2 at 11:20\n",
         ),
         (
             "txc outcomes examples/seats_mended.c --threads 2",
@@ -796,7 +796,7 @@ fn fourth_transcripts() -> &'static [Transcript] {
 }
 
 fn fifth_transcripts() -> &'static [Transcript] {
-    static ROWS: [Transcript; 15] = [
+    static ROWS: [Transcript; 17] = [
         (
             "txc source examples/against/clear_torn.c --threads 2 --order 0,1",
             b"// Thread 0 clears an array in one transaction, thread 1 reads both ends of it in another. So it prints 1 1, or 0 0.\nunsigned a[8] = {1, 1, 1, 1, 1, 1, 1, 1};\n\nvoid worker(int self) {\n    unsigned first = 0, last = 0;\n    if (self == 0) {\n        __transaction_atomic {\n            for (int i = 0; i < 8; i++) a[i] = 0;\n        }\n    } else {\n        __transaction_atomic {\n            first = a[0]; /*pause*/\n            last = a[7];\n        }\n        printf(\"%u %u\\n\", first, last);\n    }\n}\n",
@@ -901,6 +901,20 @@ fn fifth_transcripts() -> &'static [Transcript] {
             b"",
             b"",
             b"turn thread at     seats sold\n                       1    0\n   1      0 6:5        1    .   free = seats > 0\n   2      1 6:5        1    .   free = seats > 0\n   3      1 8:9       >0   >1   seats = seats - 1; sold = sold + 1  ended\n   4      0 8:9      >-1   >2   seats = seats - 1; sold = sold + 1  ended\nthread 0: ended\nthread 1: ended\n",
+        ),
+        (
+            "txc trace examples/seats.c --threads 2 --order 0,1 --full",
+            b"// One seat and two buyers, who check and buy in two transactions: the seat can be sold twice.\nint seats = 1, sold;\n\nvoid worker(int self) {\n    int free;\n    __transaction_atomic { free = seats > 0; }\n    if (free) {\n        __transaction_atomic {\n            seats = seats - 1;\n            sold = sold + 1;\n        }\n    }\n}\n",
+            b"",
+            b"",
+            b"== first\nseats = 1\n== turn 1: thread 0 at 6:5 in worker\n6 |     __transaction_atomic { free = seats > 0; }\nread seats = 1\n== turn 2: thread 1 at 6:5 in worker\n6 |     __transaction_atomic { free = seats > 0; }\nread seats = 1\n== last\nthread 0: next at 8:9: seats = seats - 1; sold = sold + 1\nthread 1: next at 8:9: seats = seats - 1; sold = sold + 1\n",
+        ),
+        (
+            "txc trace examples/seats.c --threads 2 --order 0,1 --format json",
+            b"// One seat and two buyers, who check and buy in two transactions: the seat can be sold twice.\nint seats = 1, sold;\n\nvoid worker(int self) {\n    int free;\n    __transaction_atomic { free = seats > 0; }\n    if (free) {\n        __transaction_atomic {\n            seats = seats - 1;\n            sold = sold + 1;\n        }\n    }\n}\n",
+            b"",
+            b"",
+            b"{\"turn\":1,\"thread\":0,\"line\":6,\"column\":5,\"function\":\"worker\",\"words\":\"free = seats > 0\",\"inner\":[],\"reads\":[{\"global\":\"seats\",\"value\":1}],\"writes\":[],\"idle\":false,\"cancelled\":false,\"printed\":\"\",\"end\":\"next\"}\n{\"turn\":2,\"thread\":1,\"line\":6,\"column\":5,\"function\":\"worker\",\"words\":\"free = seats > 0\",\"inner\":[],\"reads\":[{\"global\":\"seats\",\"value\":1}],\"writes\":[],\"idle\":false,\"cancelled\":false,\"printed\":\"\",\"end\":\"next\"}\n{\"thread\":0,\"end\":\"next\",\"line\":8,\"column\":9,\"function\":\"worker\",\"words\":\"seats = seats - 1; sold = sold + 1\"}\n{\"thread\":1,\"end\":\"next\",\"line\":8,\"column\":9,\"function\":\"worker\",\"words\":\"seats = seats - 1; sold = sold + 1\"}\n",
         ),
     ];
     &ROWS
