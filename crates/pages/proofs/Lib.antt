@@ -1,2 +1,2 @@
 -- JSON inside of HTML
-mod Escaped
+mod Escaping

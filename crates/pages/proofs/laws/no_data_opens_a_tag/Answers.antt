@@ -1,4 +1,4 @@
-use Rattle.pages.proofs.Escaped.{no_bracket}
+use Rattle.pages.proofs.Escaping.{no_bracket}
 use Rattle.pages.proofs.laws.no_data_opens_a_tag.Goals as goal
 
 pub returns : goal.returns
