@@ -165,7 +165,9 @@ fn print_trace<A: Allocator + Copy, W: Write, E: Write>(
 fn form_of(format: Format, in_full: bool) -> Form {
     match format {
         Format::Json => Form::Json,
-        Format::Plain | Format::Short | Format::Github => { if in_full { Form::Full } else { Form::Table } }
+        Format::Plain | Format::Short | Format::Github => {
+            if in_full { Form::Full } else { Form::Table }
+        }
     }
 }
 
