@@ -3,7 +3,7 @@
 ghost use Rattle.std.specs.Prelude.{◌≡◌, ◌⊎◌, IfErr, IfOk, IfSome, List, None, OnOk, Option, Some, false, option_map, string_bytes, true, ℕ};
 ghost use Rattle.command.specs.declared.request.Request.{Request};
 ghost use Rattle.serving.specs.Compared.{name_of};
-ghost use Rattle.serving.specs.Numbers.{other_of};
+ghost use Rattle.serving.specs.Numbers.{IsSource, other_of};
 ghost use Rattle.system.specs.Kept.{AreKnown, AreReadFrom, IsFileKnown, IsReadAsSource, IsReadFrom, StayKnown, kept_in};
 
 use command::{Against, Format, Request};
@@ -131,9 +131,11 @@ fn read_into<F: Files>(
 ) -> io::Result<()>
     ensures known { OnOk result (IsFileKnown (kept_in kept.new.items) named.now.name.now) }
     ensures others { OnOk result (StayKnown (kept_in kept.old.items) (kept_in kept.new.items)) }
-    ensures read { (request : Option Request) → (named.now.is_source ≡ true → IsReadAsSource request named.now.name.now)
-        → OnOk result (AreReadFrom request (F.contents files.now) kept.old.items
-        → AreReadFrom request (F.contents files.now) kept.new.items) }
+    ensures read { (request : Request) → (named.now.is_source ≡ true → IsSource request named.now.name.now)
+        → OnOk result (AreReadFrom (Some request) (F.contents files.now) kept.old.items
+        → AreReadFrom (Some request) (F.contents files.now) kept.new.items) }
+    ensures tested { OnOk result (AreReadFrom None (F.contents files.now) kept.old.items
+        → AreReadFrom None (F.contents files.now) kept.new.items) }
 {
     let file = read_file(alloc, named, files)?;
     kept.push(file)?;
@@ -150,9 +152,11 @@ fn keep<F: Files, E: Write>(
 ) -> Result<(), u8>
     ensures known { OnOk result (IsFileKnown (kept_in kept.new.items) named.now.name.now) }
     ensures others { OnOk result (StayKnown (kept_in kept.old.items) (kept_in kept.new.items)) }
-    ensures read { (request : Option Request) → (named.now.is_source ≡ true → IsReadAsSource request named.now.name.now)
-        → OnOk result (AreReadFrom request (F.contents files.now) kept.old.items
-        → AreReadFrom request (F.contents files.now) kept.new.items) }
+    ensures read { (request : Request) → (named.now.is_source ≡ true → IsSource request named.now.name.now)
+        → OnOk result (AreReadFrom (Some request) (F.contents files.now) kept.old.items
+        → AreReadFrom (Some request) (F.contents files.now) kept.new.items) }
+    ensures tested { OnOk result (AreReadFrom None (F.contents files.now) kept.old.items
+        → AreReadFrom None (F.contents files.now) kept.new.items) }
     ensures status { IfErr result (λ s. (s ≡ 2) ⊎ (s ≡ 4)) }
 {
     match read_into(alloc, named, files, kept) {
