@@ -1,5 +1,5 @@
 -- The files that are tested: the answers to their questions.
-use Rattle.std.specs.Prelude.{◌≡◌, ◌⊎◌, ◌∷◌, ℕ, List, [], Option, Some, IsSomeAnd, bytes_eq, codes, false, if◌then◌else◌}
+use Rattle.std.specs.Prelude.{◌≡◌, ◌⊎◌, ◌∷◌, ℕ, List, [], Some, IsSomeAnd, bytes_eq, codes, false, if◌then◌else◌}
 use Rattle.std.specs.Prelude.{map, string_bytes}
 use Rattle.command.specs.Asked.{Requests}
 use Rattle.command.specs.declared.request.Asked.{Asked}

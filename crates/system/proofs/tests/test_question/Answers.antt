@@ -9,4 +9,4 @@ returns g c = λ passed.
     question_passed _ _ _ (map (λ w. w.now) c.args.question.now.words.items) _ c.answer_expected-expected.result c.answer_question-answer.result.status
     (c.without_expected.ensures ∙ ap (λ ws. without_expected (map (λ w. w.now) ws)) same)
     (c.answer_expected-expected.ensures ∙ ap (λ ws. expected_of (map (λ w. w.now) ws)) same)
-    (c.judge-verdict.ensures passed) (c.answer_question-answer.ensures _ c.in_ok-asked.ensures)
+    (c.judge-verdict.ensures passed) (c.answer_question-answer.ensures _ c.in-Ok.ensures)
