@@ -207,10 +207,10 @@ IsTask name given (Source threads order ticks) = (name ≡ codes "source") × Ar
 IsTask name given (Trace threads order property in_full) = (name ≡ codes "trace")
     × IsNumberInRange given (codes "threads") 2 1 64 threads
     × IsOrderGiven given order.items × (option_map string_bytes property ≡ first_of (codes "property") given)
+    × (IsTrue in_full ↔ IsFlagged given (codes "full"))
 IsTask name given (Explore threads order always) = (name ≡ codes "explore")
     × IsNumberInRange given (codes "threads") 2 1 64 threads
     × IsOrderOpened given order.items × (option_map string_bytes always ≡ first_of (codes "always") given)
-    × (IsTrue in_full ↔ IsFlagged given (codes "full"))
 IsTask name given (Outcomes threads steps limit memory time traces) = (name ≡ codes "outcomes")
     × AreThreadsExplored given threads.first threads.last
     × IsNumberInRange given (codes "steps") 1000000 0 4294967295 steps
