@@ -24,13 +24,14 @@ use crate::source::OrderFault;
 use crate::tell::{Teller, cannot_write, out_of_memory};
 use crate::walked::{OutcomesFound, outcomes_in};
 use command::ThreadRange;
+use fault_lines::Tell;
 use report::{ReportedOrder, WalkEnd, list_text};
 use std::alloc::Allocator;
 use std::io::Write;
 
 /// Lists the outcomes of a source's threads over all orders, and the orders that are stuck, for one number of threads
 /// after another, up to the first whose status is not 0.
-pub(crate) fn all_outcomes<A: Allocator + Copy, W: Write, E: Write>(
+pub(crate) fn all_outcomes<A: Allocator + Copy, W: Write, E: Tell>(
     alloc: A,
     text: &str,
     range: ThreadRange,
@@ -53,7 +54,7 @@ pub(crate) fn all_outcomes<A: Allocator + Copy, W: Write, E: Write>(
 }
 
 /// Lists the outcomes of a program for one number of threads after another.
-fn list_in_turn<A: Allocator + Copy, W: Write, E: Write>(
+fn list_in_turn<A: Allocator + Copy, W: Write, E: Tell>(
     alloc: A,
     text: &str,
     compiled: &Compiled<A>,
@@ -85,7 +86,7 @@ fn list_in_turn<A: Allocator + Copy, W: Write, E: Write>(
 }
 
 /// Lists the outcomes of so many threads of a program.
-fn list_of_threads<A: Allocator + Copy, W: Write, E: Write>(
+fn list_of_threads<A: Allocator + Copy, W: Write, E: Tell>(
     alloc: A,
     text: &str,
     compiled: &Compiled<A>,
@@ -103,7 +104,7 @@ fn list_of_threads<A: Allocator + Copy, W: Write, E: Write>(
 {
     match outcomes_in(alloc, compiled, threads, steps, limit, memory, teller) {
         Ok(found) => {
-            let status = print_outcomes(alloc, &found, threads, out, teller.err);
+            let status = print_outcomes(alloc, &found, threads, out, &mut teller.err);
             tell_listed_ends(alloc, text, threads, &found, teller);
             status
         }
@@ -112,7 +113,7 @@ fn list_of_threads<A: Allocator + Copy, W: Write, E: Write>(
 }
 
 /// Prints a list of outcomes, and gives the exit status.
-fn print_outcomes<A: Allocator + Copy, W: Write, E: Write>(
+fn print_outcomes<A: Allocator + Copy, W: Write, E: Tell>(
     alloc: A,
     found: &OutcomesFound<A>,
     threads: u32,

@@ -24,13 +24,14 @@ use crate::properties::{Extent, PropertiesFound, properties_in};
 use crate::request::bytes_of_memory;
 use crate::tell::{Teller, cannot_write, out_of_memory};
 use command::{Questions, ThreadRange};
+use fault_lines::Tell;
 use messages::write_shown;
 use report::{Finding, Property, WalkEnd, properties_text};
 use std::alloc::{AllocError, Allocator};
 use std::io::{Read, Write};
 
 /// Opens the source, and says whether functions of it hold.
-pub(crate) fn open_asked<A: Allocator + Copy, F: Files, W: Write, E: Write>(
+pub(crate) fn open_asked<A: Allocator + Copy, F: Files, W: Write, E: Tell>(
     alloc: A,
     file: &str,
     questions: &Questions,
@@ -49,7 +50,7 @@ pub(crate) fn open_asked<A: Allocator + Copy, F: Files, W: Write, E: Write>(
 
 /// Says whether functions of a source hold. The status is 0 where all do and no order is stuck, 5 where some function
 /// fails, and else as `serve` says.
-pub(crate) fn ask<A: Allocator + Copy, R: Read + Drop, W: Write, E: Write>(
+pub(crate) fn ask<A: Allocator + Copy, R: Read + Drop, W: Write, E: Tell>(
     alloc: A,
     questions: &Questions,
     source: R,
@@ -66,7 +67,7 @@ pub(crate) fn ask<A: Allocator + Copy, R: Read + Drop, W: Write, E: Write>(
 }
 
 /// Says whether functions of a source's text hold.
-fn ask_text<A: Allocator + Copy, W: Write, E: Write>(
+fn ask_text<A: Allocator + Copy, W: Write, E: Tell>(
     alloc: A,
     questions: &Questions,
     text: &str,
@@ -104,7 +105,7 @@ fn names_of<'a, A: Allocator>(
 }
 
 /// Says whether functions of a program hold.
-fn ask_program<A: Allocator + Copy, W: Write, E: Write>(
+fn ask_program<A: Allocator + Copy, W: Write, E: Tell>(
     alloc: A,
     questions: &Questions,
     text: &str,
@@ -132,9 +133,9 @@ fn ask_program<A: Allocator + Copy, W: Write, E: Write>(
                 out,
                 teller,
             ),
-            Err(_) => out_of_memory(teller.err),
+            Err(_) => out_of_memory(&mut teller.err),
         },
-        Err(_) => out_of_memory(teller.err),
+        Err(_) => out_of_memory(&mut teller.err),
     }
 }
 
@@ -152,7 +153,7 @@ fn extent_of(questions: &Questions) -> Extent
 
 /// Says whether functions of these names hold in every state, and these in every outcome, for one number of threads
 /// after another, up to the first whose status is not 0.
-fn ask_in_turn<A: Allocator + Copy, W: Write, E: Write>(
+fn ask_in_turn<A: Allocator + Copy, W: Write, E: Tell>(
     alloc: A,
     questions: &Questions,
     range: ThreadRange,
@@ -187,7 +188,7 @@ fn ask_in_turn<A: Allocator + Copy, W: Write, E: Write>(
 }
 
 /// Says whether functions of these names hold in every state of so many threads, and these in every outcome.
-fn ask_names<A: Allocator + Copy, W: Write, E: Write>(
+fn ask_names<A: Allocator + Copy, W: Write, E: Tell>(
     alloc: A,
     questions: &Questions,
     threads: u32,
@@ -206,10 +207,10 @@ fn ask_names<A: Allocator + Copy, W: Write, E: Write>(
     ensures unaskable { result ≡ 2 → HasUnaskable (program_of compiled.now.accepted.safe.typed.unit)
         (asked_each false (map (λ n. n.now) always.now) ++ asked_each true (map (λ n. n.now) last.now)) }
 {
-    if let Some(status) = refuse_names(alloc, compiled, "always", always, teller.err) {
+    if let Some(status) = refuse_names(alloc, compiled, "always", always, &mut teller.err) {
         return status;
     }
-    if let Some(status) = refuse_names(alloc, compiled, "final", last, teller.err) {
+    if let Some(status) = refuse_names(alloc, compiled, "final", last, &mut teller.err) {
         return status;
     }
     match properties_in(
@@ -222,7 +223,7 @@ fn ask_names<A: Allocator + Copy, W: Write, E: Write>(
         teller,
     ) {
         Ok(found) => {
-            let status = print_found(alloc, &found, threads, out, teller.err);
+            let status = print_found(alloc, &found, threads, out, &mut teller.err);
             let accepted = &compiled.accepted;
             tell_asked_ends(alloc, text, accepted, threads, &found, teller);
             status
@@ -232,7 +233,7 @@ fn ask_names<A: Allocator + Copy, W: Write, E: Write>(
 }
 
 /// The exit status with which it is told of the first of these names whose function may not be asked, if there is one.
-pub(crate) fn refuse_names<A: Allocator + Copy, E: Write>(
+pub(crate) fn refuse_names<A: Allocator + Copy, E: Tell>(
     alloc: A,
     compiled: &Compiled<A>,
     option: &str,
@@ -255,7 +256,7 @@ pub(crate) fn refuse_names<A: Allocator + Copy, E: Write>(
 }
 
 /// Tells why a function may not be asked.
-fn tell_unaskable<E: Write>(option: &str, name: &str, why: Unaskable, err: &mut E) -> u8
+fn tell_unaskable<E: Tell>(option: &str, name: &str, why: Unaskable, err: &mut E) -> u8
     ensures { result ≡ 2 }
 {
     let _ = write!(err, "txc: usage: --{option} ");
@@ -265,7 +266,7 @@ fn tell_unaskable<E: Write>(option: &str, name: &str, why: Unaskable, err: &mut 
 }
 
 /// Prints what was found of properties, and gives the exit status.
-fn print_found<A: Allocator + Copy, W: Write, E: Write>(
+fn print_found<A: Allocator + Copy, W: Write, E: Tell>(
     alloc: A,
     found: &PropertiesFound<A>,
     threads: u32,

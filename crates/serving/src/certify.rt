@@ -16,6 +16,7 @@ use crate::source::order_accepted;
 use crate::tell::{Teller, cannot_write, out_of_memory, unusable};
 use command::{Claim, listed_order};
 use differences::difference;
+use fault_lines::Tell;
 use meaning::MeaningFault;
 use report::{Printed, report_text};
 use separation::Accepted;
@@ -25,7 +26,7 @@ use std::io::{Read, Write};
 use walks::MOST_STEPS;
 
 /// Opens what a claim names, the source first, then the order and the report, and says whether it is so.
-pub(crate) fn open_claim<A: Allocator + Copy, F: Files, W: Write, E: Write>(
+pub(crate) fn open_claim<A: Allocator + Copy, F: Files, W: Write, E: Tell>(
     alloc: A,
     file: &str,
     claim: &Claim,
@@ -44,7 +45,7 @@ pub(crate) fn open_claim<A: Allocator + Copy, F: Files, W: Write, E: Write>(
 }
 
 /// Opens the order, and then the report, and says whether a claim is so.
-fn open_order<A: Allocator + Copy, F: Files, R: Read + Drop, W: Write, E: Write>(
+fn open_order<A: Allocator + Copy, F: Files, R: Read + Drop, W: Write, E: Tell>(
     alloc: A,
     claim: &Claim,
     source: R,
@@ -63,7 +64,7 @@ fn open_order<A: Allocator + Copy, F: Files, R: Read + Drop, W: Write, E: Write>
 }
 
 /// Opens the report, and says whether a claim is so.
-fn open_report<A: Allocator + Copy, F: Files, R: Read + Drop, S: Read + Drop, W: Write, E: Write>(
+fn open_report<A: Allocator + Copy, F: Files, R: Read + Drop, S: Read + Drop, W: Write, E: Tell>(
     alloc: A,
     claim: &Claim,
     source: R,
@@ -90,7 +91,7 @@ pub(crate) fn certify<
     S: Read + Drop,
     Q: Read + Drop,
     W: Write,
-    E: Write,
+    E: Tell,
 >(
     alloc: A,
     claim: &Claim,
@@ -110,7 +111,7 @@ pub(crate) fn certify<
 }
 
 /// Says whether a claim is so of a source's text.
-fn certify_text<A: Allocator + Copy, S: Read + Drop, Q: Read + Drop, W: Write, E: Write>(
+fn certify_text<A: Allocator + Copy, S: Read + Drop, Q: Read + Drop, W: Write, E: Tell>(
     alloc: A,
     claim: &Claim,
     text: &str,
@@ -140,7 +141,7 @@ fn certify_text<A: Allocator + Copy, S: Read + Drop, Q: Read + Drop, W: Write, E
 }
 
 /// Says whether a claim is so of an accepted program and this order.
-fn certify_order<A: Allocator + Copy, Q: Read + Drop, W: Write, E: Write>(
+fn certify_order<A: Allocator + Copy, Q: Read + Drop, W: Write, E: Tell>(
     alloc: A,
     claim: &Claim,
     accepted: &Accepted<A>,
@@ -162,8 +163,8 @@ fn certify_order<A: Allocator + Copy, Q: Read + Drop, W: Write, E: Write>(
             teller,
         ),
         Err(DueFault::Order(fault)) => teller.refuse_order(fault),
-        Err(DueFault::Long) => too_long(teller.err),
-        Err(DueFault::Spent) => spent(teller.err),
+        Err(DueFault::Long) => too_long(&mut teller.err),
+        Err(DueFault::Spent) => spent(&mut teller.err),
     }
 }
 
@@ -177,7 +178,7 @@ pub(crate) enum DueFault {
 }
 
 /// Says that a thread executes too many instructions in one turn of an order.
-fn too_long<E: Write>(err: &mut E) -> u8
+fn too_long<E: Tell>(err: &mut E) -> u8
     ensures { result ≡ 4 }
 {
     let _ = writeln!(
@@ -188,7 +189,7 @@ fn too_long<E: Write>(err: &mut E) -> u8
 }
 
 /// Says that a thread takes too many ticks in an order.
-fn spent<E: Write>(err: &mut E) -> u8
+fn spent<E: Tell>(err: &mut E) -> u8
     ensures { result ≡ 4 }
 {
     let _ = writeln!(err, "txc: a thread takes more than {} ticks", u32::MAX);
@@ -288,7 +289,7 @@ fn due_report<A: Allocator + Copy>(
 }
 
 /// Says whether the report in a file is the one that is due.
-fn certify_due<A: Allocator + Copy, Q: Read + Drop, W: Write, E: Write>(
+fn certify_due<A: Allocator + Copy, Q: Read + Drop, W: Write, E: Tell>(
     alloc: A,
     due: &[u8],
     file: &str,
@@ -300,13 +301,13 @@ fn certify_due<A: Allocator + Copy, Q: Read + Drop, W: Write, E: Write>(
         (W.contents out.new) }
 {
     match read_all(alloc, report) {
-        Ok(found) => tell_verdict(alloc, due, found.as_slice(), out, teller.err),
+        Ok(found) => tell_verdict(alloc, due, found.as_slice(), out, &mut teller.err),
         Err(error) => teller.not_read(file, &error),
     }
 }
 
 /// The order that a file lists. What is wrong with it is told, and the error is then the exit status.
-fn order_of<A: Allocator + Copy, S: Read + Drop, E: Write>(
+fn order_of<A: Allocator + Copy, S: Read + Drop, E: Tell>(
     alloc: A,
     file: &str,
     order: S,
@@ -319,20 +320,20 @@ fn order_of<A: Allocator + Copy, S: Read + Drop, E: Write>(
         Ok(listed) => match listed_order(alloc, listed.as_slice()) {
             Ok(Some(order)) => Ok(order),
             Ok(None) => Err(bad_order(teller)),
-            Err(_) => Err(out_of_memory(teller.err)),
+            Err(_) => Err(out_of_memory(&mut teller.err)),
         },
         Err(error) => Err(teller.not_read(file, &error)),
     }
 }
 
 /// Says that a file lists no order, and how one is written where more is to be told.
-fn bad_order<E: Write>(teller: &mut Teller<'_, E>) -> u8
+fn bad_order<E: Tell>(teller: &mut Teller<'_, E>) -> u8
     ensures { result ≡ 2 }
 {
-    let status = unusable("bad --order-file", teller.err);
+    let status = unusable("bad --order-file", &mut teller.err);
     if teller.detail.lines {
         let _ = writeln!(
-            teller.err,
+            &mut teller.err,
             "an order is thread numbers between commas, blanks, tabs and ends of lines"
         );
     }
@@ -352,7 +353,7 @@ pub(crate) fn read_all<A: Allocator, R: Read + Drop>(
 }
 
 /// Says whether a report is the one that is due, or shows the first line in which it differs.
-fn tell_verdict<A: Allocator + Copy, W: Write, E: Write>(
+fn tell_verdict<A: Allocator + Copy, W: Write, E: Tell>(
     alloc: A,
     due: &[u8],
     found: &[u8],

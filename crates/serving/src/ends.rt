@@ -2,6 +2,7 @@
 
 use crate::tell::{Teller, show_line};
 use bytecode::{Code, InstrView};
+use fault_lines::Tell;
 use lex::place;
 use lex::token::{Scalar, Span};
 use machine::PlaceShown;
@@ -113,7 +114,7 @@ impl HasEnd for ThreadSeen<'_> {
 
 /// Tells where each thread stands that trapped or goes no further, where lines are wanted, with the line of the source:
 /// once, where several stand at one place.
-pub(crate) fn tell_ends<A: Allocator + Copy, T: HasEnd, E: Write>(
+pub(crate) fn tell_ends<A: Allocator + Copy, T: HasEnd, E: Tell>(
     alloc: A,
     text: &str,
     threads: &[T],
@@ -122,13 +123,13 @@ pub(crate) fn tell_ends<A: Allocator + Copy, T: HasEnd, E: Write>(
 ) {
     if teller.detail.lines {
         let mut shown = Vec::new(alloc);
-        tell_threads(alloc, text, threads, stood, &mut shown, teller.err);
+        tell_threads(alloc, text, threads, stood, &mut shown, &mut teller.err);
     }
 }
 
 /// Tells where each thread stands that trapped or goes no further, with the line of the source where that was not shown
 /// yet.
-pub(crate) fn tell_threads<A: Allocator + Copy, T: HasEnd, E: Write>(
+pub(crate) fn tell_threads<A: Allocator + Copy, T: HasEnd, E: Tell>(
     alloc: A,
     text: &str,
     threads: &[T],
@@ -147,7 +148,7 @@ pub(crate) fn tell_threads<A: Allocator + Copy, T: HasEnd, E: Write>(
 }
 
 /// Shows the line of a place that was not shown yet.
-fn show_new<A: Allocator + Copy, E: Write>(
+fn show_new<A: Allocator + Copy, E: Tell>(
     alloc: A,
     text: &str,
     at: Option<Span>,
@@ -199,7 +200,7 @@ fn is_new(at: Option<Span>, shown: &[Span]) -> bool {
 }
 
 /// Tells how a thread was found and where, if it has not ended: whether it tells something.
-fn tell_end<E: Write>(text: &str, number: usize, end: End, stood: Stood, err: &mut E) -> bool {
+fn tell_end<E: Tell>(text: &str, number: usize, end: End, stood: Stood, err: &mut E) -> bool {
     let words = match end {
         End::Ended => return false,
         End::Trapped(trap) => {
@@ -220,7 +221,7 @@ fn tell_end<E: Write>(text: &str, number: usize, end: End, stood: Stood, err: &m
 }
 
 /// Tells where a thread trapped, and what it could not compute.
-fn tell_trap<E: Write>(text: &str, number: usize, trap: Trap, stood: Stood, err: &mut E) {
+fn tell_trap<E: Tell>(text: &str, number: usize, trap: Trap, stood: Stood, err: &mut E) {
     let _ = write!(err, "txc: thread {number}: trap {}", trap.number());
     write_place(text, stood.at, err);
     if let Some(cause) = stood.cause {
@@ -231,7 +232,7 @@ fn tell_trap<E: Write>(text: &str, number: usize, trap: Trap, stood: Stood, err:
 }
 
 /// Writes a line and a column.
-fn write_place<E: Write>(text: &str, at: Option<Span>, err: &mut E) {
+fn write_place<E: Tell>(text: &str, at: Option<Span>, err: &mut E) {
     if let Some(at) = at {
         let (line, column) = place(text, at.start.min(text.len()));
         let _ = write!(err, " at {line}:{column}");
@@ -239,7 +240,7 @@ fn write_place<E: Write>(text: &str, at: Option<Span>, err: &mut E) {
 }
 
 /// Writes what could not be computed.
-fn write_cause<E: Write>(text: &str, trap: Trap, cause: TrapCause, at: Option<Span>, err: &mut E) {
+fn write_cause<E: Tell>(text: &str, trap: Trap, cause: TrapCause, at: Option<Span>, err: &mut E) {
     match cause {
         TrapCause::Call => {
             let _ = err.write_all(b"64 frames are live, and this call wants one more");
@@ -267,7 +268,7 @@ fn write_cause<E: Write>(text: &str, trap: Trap, cause: TrapCause, at: Option<Sp
 }
 
 /// Writes the operands of an operator that could not be computed.
-fn write_operation<E: Write>(
+fn write_operation<E: Tell>(
     trap: Trap,
     op: BinaryOp,
     ty: Scalar,
@@ -291,7 +292,7 @@ fn write_operation<E: Write>(
 }
 
 /// Writes the number of a word whose type is not known: where it may be negative as `int` and not as `unsigned`, both.
-fn write_word<E: Write>(word: u64, err: &mut E) {
+fn write_word<E: Tell>(word: u64, err: &mut E) {
     let signed = number(Scalar::Int, word);
     let _ = if word <= u64::from(u32::MAX) && signed < 0 {
         write!(err, "{signed} as int, {word} as unsigned")
@@ -312,7 +313,7 @@ fn name_at(text: &str, from: usize) -> &[u8] {
 }
 
 /// Writes the name of the array of which an element stands there.
-fn write_array<E: Write>(text: &str, at: Option<Span>, err: &mut E) {
+fn write_array<E: Tell>(text: &str, at: Option<Span>, err: &mut E) {
     let name = match at {
         Some(at) => name_at(text, at.start),
         None => b"the array".as_slice(),

@@ -16,12 +16,13 @@ use crate::source::OrderFault;
 use crate::tell::{Teller, cannot_write, out_of_memory};
 use crate::walked::OutcomesFound;
 use differences::difference;
+use fault_lines::Tell;
 use report::list_text;
 use std::alloc::Allocator;
 use std::io::{Read, Write};
 
 /// Says whether the list of a source's outcomes is the one in a file, which is read once they are found.
-pub(crate) fn expect<A: Allocator + Copy, Q: Read + Drop, W: Write, E: Write>(
+pub(crate) fn expect<A: Allocator + Copy, Q: Read + Drop, W: Write, E: Tell>(
     alloc: A,
     limits: Limits,
     text: &str,
@@ -49,7 +50,7 @@ pub(crate) fn expect<A: Allocator + Copy, Q: Read + Drop, W: Write, E: Write>(
 }
 
 /// Says whether the list of these outcomes is the one in a file.
-fn expect_outcomes<A: Allocator + Copy, Q: Read + Drop, W: Write, E: Write>(
+fn expect_outcomes<A: Allocator + Copy, Q: Read + Drop, W: Write, E: Tell>(
     alloc: A,
     found: &OutcomesFound<A>,
     threads: u32,
@@ -70,12 +71,12 @@ fn expect_outcomes<A: Allocator + Copy, Q: Read + Drop, W: Write, E: Write>(
         found.end,
     ) {
         Ok(list) => expect_list(alloc, found, list.as_slice(), file, expected, out, teller),
-        Err(_) => out_of_memory(teller.err),
+        Err(_) => out_of_memory(&mut teller.err),
     }
 }
 
 /// Says whether a list of these outcomes is the one in a file.
-fn expect_list<A: Allocator + Copy, Q: Read + Drop, W: Write, E: Write>(
+fn expect_list<A: Allocator + Copy, Q: Read + Drop, W: Write, E: Tell>(
     alloc: A,
     found: &OutcomesFound<A>,
     list: &[u8],
@@ -94,7 +95,7 @@ fn expect_list<A: Allocator + Copy, Q: Read + Drop, W: Write, E: Write>(
 }
 
 /// Says whether a list of these outcomes is the one that is expected, or shows the first line in which it differs.
-fn tell_expected<A: Allocator + Copy, W: Write, E: Write>(
+fn tell_expected<A: Allocator + Copy, W: Write, E: Tell>(
     alloc: A,
     found: &OutcomesFound<A>,
     list: &[u8],
@@ -108,12 +109,12 @@ fn tell_expected<A: Allocator + Copy, W: Write, E: Write>(
     match difference(alloc, b"expected", expected, b"found", list) {
         Ok(None) => tell_same(found, out, teller),
         Ok(Some(difference)) => tell_unexpected(found, difference.as_slice(), out, teller),
-        Err(_) => out_of_memory(teller.err),
+        Err(_) => out_of_memory(&mut teller.err),
     }
 }
 
 /// Says that a list of these outcomes is the one that is expected, where these are all: else more may come out.
-fn tell_same<A: Allocator, W: Write, E: Write>(
+fn tell_same<A: Allocator, W: Write, E: Tell>(
     found: &OutcomesFound<A>,
     out: &mut W,
     teller: &mut Teller<'_, E>,
@@ -122,7 +123,7 @@ fn tell_same<A: Allocator, W: Write, E: Write>(
         (W.contents out.old) (W.contents out.new) }
 {
     if is_whole(found) {
-        print_text(b"as expected\n", out, teller.err)
+        print_text(b"as expected\n", out, &mut teller.err)
     } else {
         tell_stopped(teller.detail.file, "as expected, ", found.end, teller)
     }
@@ -130,7 +131,7 @@ fn tell_same<A: Allocator, W: Write, E: Write>(
 
 /// Shows the first line in which a list of these outcomes differs, where these are all: else what differs may be one
 /// that was not met.
-fn tell_unexpected<A: Allocator, W: Write, E: Write>(
+fn tell_unexpected<A: Allocator, W: Write, E: Tell>(
     found: &OutcomesFound<A>,
     difference: &[u8],
     out: &mut W,
@@ -144,6 +145,6 @@ fn tell_unexpected<A: Allocator, W: Write, E: Write>(
     }
     match print(difference, out) {
         Ok(()) => REFUTED,
-        Err(_) => cannot_write(teller.err),
+        Err(_) => cannot_write(&mut teller.err),
     }
 }

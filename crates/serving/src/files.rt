@@ -4,10 +4,11 @@ ghost use Rattle.std.specs.Prelude.{◌≡◌, ◌≤◌, ℕ, IfOk, IfSome, Lis
 ghost use Rattle.std.specs.Prelude.{take, OnOk};
 ghost use Rattle.serving.specs.Answers.{most_status};
 ghost use Rattle.serving.specs.Files.{AnswersFiles, RefusesSource, WritesForFiles, schedule_in, schedule_of};
-ghost use Rattle.serving.specs.Refusals.{IsRefused};
+ghost use Rattle.serving.specs.Refusals.{IsFaultOfSource, IsRefused};
 ghost use Rattle.serving.specs.Sources.{IsTextOf};
 ghost use Rattle.replay.specs.declared.line.TheConstants.{MOST_STEPS};
 ghost use Rattle.serving.specs.Replays.{AreLinesOf, AreTurnsOf, IsSchedule, lines_of_seed};
+ghost use Rattle.serving.specs.Told.{TellsOfFiles, TellsPlain, TellsRefusal};
 ghost use Rattle.serving.specs.inner.Serves.{ServesTask};
 
 use crate::ask::open_asked;
@@ -18,6 +19,7 @@ use crate::tell::{Detail, Teller, not_text, refuse_replay};
 use crate::timed::Timed;
 use bytecode::Code;
 use command::{Request, Steps, Task};
+use fault_lines::Tell;
 use lex::MOST_BYTES;
 use meaning::MeaningFault;
 use replay::{Line, ScheduleFault, TurnsFault, read_schedule, seeded, turns};
@@ -42,6 +44,13 @@ pub trait Files {
         ensures { IfOk result (λ file. Self.File.remaining file ≡ contents self.now name.now) };
 }
 
+/// What was served: the exit status, and where standard error is told.
+#[derive(Drop)]
+pub struct Served<E> {
+    pub status: u8,
+    pub err: E,
+}
+
 /// Opens the files that a request names, does what is asked over them and two writers, and gives the exit status, as
 /// `serve` does.
 ///
@@ -53,13 +62,16 @@ pub fn serve_files<
     H: Threads + Wait + Clock + Sync,
     F: Files,
     W: Write,
-    E: Write + IsTerminal + Send,
->(rt: &H, alloc: Global, request: &Request, files: &F, out: &mut W, err: &mut E) -> u8
-    ensures status { result ≤ most_status request.now }
-    ensures answer { AnswersFiles request.now (F.contents files.now) result (W.contents out.old) (W.contents out.new) }
+    E: Tell + IsTerminal + Send + Drop,
+>(rt: &H, alloc: Global, request: &Request, files: &F, out: &mut W, mut err: E) -> Served<E>
+    ensures status { result.status ≤ most_status request.now }
+    ensures answer { AnswersFiles request.now (F.contents files.now) result.status (W.contents out.old)
+        (W.contents out.new) }
     ensures written { WritesForFiles request.now (F.contents files.now) (W.contents out.old) (W.contents out.new) }
-    ensures refused { result ≡ 1 → RefusesSource request.now (F.contents files.now) }
-    ensures untouched { result ≡ 1 → W.contents out.new ≡ W.contents out.old }
+    ensures refused { result.status ≡ 1 → RefusesSource request.now (F.contents files.now) }
+    ensures untouched { result.status ≡ 1 → W.contents out.new ≡ W.contents out.old }
+    ensures told { result.status ≡ 1
+        → TellsOfFiles request.now (F.contents files.now) (E.contents err) (E.contents result.err) }
 {
     match request {
         Request::Program {
@@ -72,13 +84,17 @@ pub fn serve_files<
             let detail = Detail::of(file, *verbose, *format, err.is_terminal());
             match task {
                 Task::Outcomes { .. } => {
-                    let mut timed = Timed::new(err, rt);
-                    let mut teller = Teller::new(&mut timed, detail);
-                    open_source(rt, alloc, file, task, files, out, &mut teller)
+                    let mut teller = Teller::new(Timed::new(&mut err, rt), detail);
+                    let status = open_source(rt, alloc, file, task, files, out, &mut teller);
+                    Served { status, err }
                 }
                 _ => {
                     let mut teller = Teller::new(err, detail);
-                    open_source(rt, alloc, file, task, files, out, &mut teller)
+                    let status = open_source(rt, alloc, file, task, files, out, &mut teller);
+                    Served {
+                        status,
+                        err: teller.err,
+                    }
                 }
             }
         }
@@ -90,7 +106,11 @@ pub fn serve_files<
         } => {
             let detail = Detail::of(file.as_str(), *verbose, *format, err.is_terminal());
             let mut teller = Teller::new(err, detail);
-            open_claim(alloc, file.as_str(), claim, files, out, &mut teller)
+            let status = open_claim(alloc, file.as_str(), claim, files, out, &mut teller);
+            Served {
+                status,
+                err: teller.err,
+            }
         }
         Request::Compare {
             file,
@@ -99,9 +119,9 @@ pub fn serve_files<
             comparison,
         } => {
             let detail = Detail::of(file.as_str(), *verbose, *format, err.is_terminal());
-            let mut timed = Timed::new(err, rt);
-            let mut teller = Teller::new(&mut timed, detail);
-            open_comparison(alloc, file.as_str(), comparison, files, out, &mut teller)
+            let mut teller = Teller::new(Timed::new(&mut err, rt), detail);
+            let status = open_comparison(alloc, file.as_str(), comparison, files, out, &mut teller);
+            Served { status, err }
         }
         Request::Ask {
             file,
@@ -110,17 +130,23 @@ pub fn serve_files<
             questions,
         } => {
             let detail = Detail::of(file.as_str(), *verbose, *format, err.is_terminal());
-            let mut timed = Timed::new(err, rt);
-            let mut teller = Teller::new(&mut timed, detail);
-            open_asked(alloc, file.as_str(), questions, files, out, &mut teller)
+            let mut teller = Teller::new(Timed::new(&mut err, rt), detail);
+            let status = open_asked(alloc, file.as_str(), questions, files, out, &mut teller);
+            Served { status, err }
         }
-        Request::Explain { number } => explain(*number, out, err),
-        Request::ExplainEnd { word, number } => explain_end(word.as_str(), *number, out, err),
+        Request::Explain { number } => Served {
+            status: explain(*number, out, &mut err),
+            err,
+        },
+        Request::ExplainEnd { word, number } => Served {
+            status: explain_end(word.as_str(), *number, out, &mut err),
+            err,
+        },
     }
 }
 
 /// Opens the source, and then does what is asked.
-fn open_source<H: Threads + Wait + Sync, F: Files, W: Write, E: Write + Send>(
+fn open_source<H: Threads + Wait + Sync, F: Files, W: Write, E: Tell + Send>(
     rt: &H,
     alloc: Global,
     file: &str,
@@ -129,8 +155,10 @@ fn open_source<H: Threads + Wait + Sync, F: Files, W: Write, E: Write + Send>(
     out: &mut W,
     teller: &mut Teller<'_, E>,
 ) -> u8
-    ensures { ServesTask task.now (schedule_in (F.contents files.now) (schedule_of task.now))
+    ensures serves { ServesTask task.now (schedule_in (F.contents files.now) (schedule_of task.now))
         (F.contents files.now file.now) result (W.contents out.old) (W.contents out.new) }
+    ensures told { result ≡ 1 → IfSome (F.contents files.now file.now) (λ bytes. TellsRefusal task.now
+        teller.old.detail.format bytes (E.contents teller.old.err) (E.contents teller.new.err)) }
 {
     match files.open(file) {
         Ok(source) => open_schedule(rt, alloc, task, source, files, out, teller),
@@ -139,7 +167,7 @@ fn open_source<H: Threads + Wait + Sync, F: Files, W: Write, E: Write + Send>(
 }
 
 /// Opens the schedule that a task names, if it names one, and then does what is asked.
-fn open_schedule<H: Threads + Wait + Sync, F: Files, R: Read + Drop, W: Write, E: Write + Send>(
+fn open_schedule<H: Threads + Wait + Sync, F: Files, R: Read + Drop, W: Write, E: Tell + Send>(
     rt: &H,
     alloc: Global,
     task: &Task,
@@ -148,8 +176,10 @@ fn open_schedule<H: Threads + Wait + Sync, F: Files, R: Read + Drop, W: Write, E
     out: &mut W,
     teller: &mut Teller<'_, E>,
 ) -> u8
-    ensures { ServesTask task.now (schedule_in (F.contents files.now) (schedule_of task.now))
+    ensures serves { ServesTask task.now (schedule_in (F.contents files.now) (schedule_of task.now))
         (R.remaining source) result (W.contents out.old) (W.contents out.new) }
+    ensures told { result ≡ 1 → IfSome (R.remaining source) (λ bytes. TellsRefusal task.now
+        teller.old.detail.format bytes (E.contents teller.old.err) (E.contents teller.new.err)) }
 {
     match schedule_of(task) {
         Some(name) => match files.open(name) {
@@ -182,7 +212,7 @@ pub fn schedule_of(task: &Task) -> Option<&str>
 }
 
 /// Reads a source. What is wrong with it is told, and the error is then the exit status.
-pub(crate) fn text_of<A: Allocator + Copy, R: Read + Drop, E: Write>(
+pub(crate) fn text_of<A: Allocator + Copy, R: Read + Drop, E: Tell>(
     alloc: A,
     source: R,
     teller: &mut Teller<'_, E>,
@@ -190,10 +220,14 @@ pub(crate) fn text_of<A: Allocator + Copy, R: Read + Drop, E: Write>(
     ensures ok { IfOk result (λ s. IfSome (R.remaining source) (λ bytes. string_bytes s ≡ bytes)) }
     ensures status { IfErr result (λ s. (s ≡ 1) × IfSome (R.remaining source) (λ bytes. IsRefused bytes) ⊎ (s ≡ 2)
         ⊎ (s ≡ 4)) }
+    ensures format { OnOk result (teller.new.detail.format ≡ teller.old.detail.format) }
+    ensures kept { OnOk result (E.contents teller.new.err ≡ E.contents teller.old.err) }
+    ensures told { IfErr result (λ s. s ≡ 1 → IfSome (R.remaining source) (λ bytes. TellsPlain IsFaultOfSource
+        teller.old.detail.format bytes (E.contents teller.old.err) (E.contents teller.new.err))) }
 {
     match read_source(alloc, source) {
         Ok(SourceText::Text(text)) => Ok(text),
-        Ok(SourceText::NotText) => Err(not_text(teller.detail.file, teller.err)),
+        Ok(SourceText::NotText) => Err(not_text(teller.detail.file, &mut teller.err)),
         Ok(SourceText::TooLong) => Err(teller.too_long(alloc)),
         Err(error) => {
             let file = teller.detail.file;
@@ -256,7 +290,7 @@ fn read_text<A: Allocator, R: Read + Drop>(alloc: A, mut reader: R) -> io::Resul
 }
 
 /// The lines of a schedule, a seed or an order. What is wrong with them is told, and the error is then the exit status.
-pub(crate) fn lines_of<A: Allocator + Copy, S: Read + Drop, E: Write>(
+pub(crate) fn lines_of<A: Allocator + Copy, S: Read + Drop, E: Tell>(
     alloc: A,
     code: &Code<A>,
     threads: u32,
@@ -275,7 +309,7 @@ pub(crate) fn lines_of<A: Allocator + Copy, S: Read + Drop, E: Write>(
 }
 
 /// The lines of an order of whole transactions.
-pub(crate) fn lines_in_order<A: Allocator + Copy, E: Write>(
+pub(crate) fn lines_in_order<A: Allocator + Copy, E: Tell>(
     alloc: A,
     code: &Code<A>,
     threads: u32,
@@ -287,15 +321,21 @@ pub(crate) fn lines_in_order<A: Allocator + Copy, E: Write>(
 {
     match turns(alloc, code, threads, order) {
         Ok(found) => Ok(found),
-        Err(TurnsFault::OutOfMemory) => Err(refuse_replay(WorldFault::OutOfMemory, teller.err)),
-        Err(TurnsFault::WrongThreads) => Err(refuse_replay(WorldFault::WrongThreads, teller.err)),
+        Err(TurnsFault::OutOfMemory) => Err(refuse_replay(
+            WorldFault::OutOfMemory,
+            &mut teller.err,
+        )),
+        Err(TurnsFault::WrongThreads) => Err(refuse_replay(
+            WorldFault::WrongThreads,
+            &mut teller.err,
+        )),
         Err(TurnsFault::Stranger) => Err(teller.refuse_order(MeaningFault::Stranger)),
         Err(TurnsFault::TooLong) => Err(teller.refuse_schedule(alloc, "", ScheduleFault::TooLong)),
     }
 }
 
 /// The lines of a schedule.
-fn lines_read<A: Allocator + Copy, S: Read + Drop, E: Write>(
+fn lines_read<A: Allocator + Copy, S: Read + Drop, E: Tell>(
     alloc: A,
     file: &str,
     schedule: S,
@@ -309,13 +349,13 @@ fn lines_read<A: Allocator + Copy, S: Read + Drop, E: Write>(
             Ok(found) => Ok(found),
             Err(fault) => Err(teller.refuse_schedule(alloc, text.as_str(), fault)),
         },
-        Ok(None) => Err(not_text(file, teller.err)),
+        Ok(None) => Err(not_text(file, &mut teller.err)),
         Err(error) => Err(teller.not_read(file, &error)),
     }
 }
 
 /// The lines of a seed.
-pub(crate) fn lines_picked<A: Allocator + Copy, E: Write>(
+pub(crate) fn lines_picked<A: Allocator + Copy, E: Tell>(
     alloc: A,
     seed: u32,
     threads: u32,
@@ -327,7 +367,7 @@ pub(crate) fn lines_picked<A: Allocator + Copy, E: Write>(
     ensures status { IfErr result (λ s. (s ≡ 2) ⊎ (s ≡ 4)) }
 {
     if threads == 0 {
-        return Err(refuse_replay(WorldFault::WrongThreads, teller.err));
+        return Err(refuse_replay(WorldFault::WrongThreads, &mut teller.err));
     }
     match seeded(alloc, u64::from(seed), threads, count) {
         Ok(found) => Ok(found),

@@ -1,9 +1,12 @@
 //! What `txc check` tells besides: what is warned of a source that is accepted, and the further faults of one that is
 //! refused.
 
+ghost use Rattle.serving.specs.Told.{TellsMore};
+
 use crate::program::SourceFault;
 use crate::tell::{Teller, show_line};
 use command::Format;
+use fault_lines::{Tell, tell_decimal};
 use further_faults::{Fault, MOST_FAULTS, further_faults};
 use lex::place;
 use messages::{WarningWords, warning_line, warning_words, write_shown};
@@ -16,7 +19,7 @@ use warnings::{Warning, warnings};
 const MOST_WARNINGS: usize = 20;
 
 /// Tells what is warned of a source that is accepted. Where memory is refused it tells nothing.
-pub(crate) fn tell_warnings<A: Allocator + Copy, E: Write>(
+pub(crate) fn tell_warnings<A: Allocator + Copy, E: Tell>(
     alloc: A,
     text: &str,
     accepted: &Accepted<A>,
@@ -31,7 +34,7 @@ pub(crate) fn tell_warnings<A: Allocator + Copy, E: Write>(
         let more = found.len().saturating_sub(MOST_WARNINGS);
         if more > 0 {
             let _ = writeln!(
-                teller.err,
+                &mut teller.err,
                 "txc: warnings: {MOST_WARNINGS}, and {more} more"
             );
         }
@@ -39,7 +42,7 @@ pub(crate) fn tell_warnings<A: Allocator + Copy, E: Write>(
 }
 
 /// Tells a warning, and behind it the line that it stands in where that is wanted.
-fn tell_warning<A: Allocator + Copy, E: Write>(
+fn tell_warning<A: Allocator + Copy, E: Tell>(
     alloc: A,
     text: &str,
     warning: Warning,
@@ -54,7 +57,7 @@ fn tell_warning<A: Allocator + Copy, E: Write>(
             let _ = writeln!(teller.err, "txc: warning {name} at {line}:{column}: {what}");
         }
         Format::Short => {
-            let _ = write_shown(teller.detail.file, "", teller.err);
+            let _ = write_shown(teller.detail.file, "", &mut teller.err);
             let _ = writeln!(teller.err, ":{line}:{column}: warning: {what} [{name}]");
         }
         Format::Json => {
@@ -66,13 +69,13 @@ fn tell_warning<A: Allocator + Copy, E: Write>(
         }
     }
     if teller.detail.lines {
-        show_line(alloc, text, warning.span, teller.err);
-        show_advice(text, warning, words, teller.err);
+        show_line(alloc, text, warning.span, &mut teller.err);
+        show_advice(text, warning, words, &mut teller.err);
     }
 }
 
 /// Shows where the other thing stands that a warning speaks of, and what may be done.
-fn show_advice<E: Write>(text: &str, warning: Warning, words: WarningWords, err: &mut E) {
+fn show_advice<E: Tell>(text: &str, warning: Warning, words: WarningWords, err: &mut E) {
     if let Some(other) = warning.other {
         let besides = words.besides;
         let (line, column) = place(text, other.start.min(text.len()));
@@ -92,12 +95,14 @@ fn is_first(fault: Fault, first: SourceFault) -> bool {
 
 /// Tells the faults of a source that can be told beside its first one, and how many there are where they are more than
 /// that. Where memory is refused it tells nothing.
-pub(crate) fn tell_faults<A: Allocator + Copy, E: Write>(
+pub(crate) fn tell_faults<A: Allocator + Copy, E: Tell>(
     alloc: A,
     text: &str,
     first: SourceFault,
     teller: &mut Teller<'_, E>,
-) {
+)
+    ensures { TellsMore (E.contents teller.old.err) (E.contents teller.new.err) }
+{
     if let Ok(found) = further_faults(alloc, text) {
         'faults: for fault in found.iter() {
             if !is_first(*fault, first) {
@@ -105,16 +110,20 @@ pub(crate) fn tell_faults<A: Allocator + Copy, E: Write>(
             }
         }
         let count = found.len();
-        let more = if count == MOST_FAULTS {
-            ", and there may be more"
-        } else {
-            ""
-        };
-        match teller.detail.format {
-            Format::Plain if count > 1 => {
-                let _ = writeln!(teller.err, "txc: faults: {count}{more}");
-            }
-            Format::Plain | Format::Short | Format::Json => {}
+        if count > 1 && teller.detail.format == Format::Plain {
+            tell_count(count, &mut teller.err);
         }
     }
+}
+
+/// Tells how many faults there are, and whether there may be more.
+fn tell_count<E: Tell>(count: usize, err: &mut E)
+    ensures { TellsMore (E.contents err.old) (E.contents err.new) }
+{
+    err.tell(b"txc: faults: ");
+    tell_decimal(count as u64, err);
+    if count == MOST_FAULTS {
+        err.tell(b", and there may be more");
+    }
+    err.tell(b"\n");
 }

@@ -20,6 +20,7 @@ pub mod laws;
 mod listed_bytes;
 mod listed_ends;
 mod listing;
+mod lossy;
 mod numbers;
 mod pictures;
 mod print;
@@ -39,8 +40,9 @@ mod trace;
 mod walked;
 
 pub use all_outcomes::list_outcomes;
-pub use files::{Files, SourceText, read_bytes, read_source, schedule_of};
+pub use files::{Files, Served, SourceText, read_bytes, read_source, schedule_of};
 pub use listing::list_source;
+pub use lossy::Lossy;
 pub use numbers::serve_asked;
 pub use program::{Compiled, SourceFault, compile};
 pub use replays::{Replayed, lines_shown, replay_code};

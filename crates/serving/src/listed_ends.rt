@@ -7,6 +7,7 @@ use crate::properties::PropertiesFound;
 use crate::source::order_accepted;
 use crate::tell::Teller;
 use crate::walked::OutcomesFound;
+use fault_lines::Tell;
 use lex::token::Span;
 use report::{End, ReportedOrder, ThreadShown, WalkEnd};
 use separation::Accepted;
@@ -16,7 +17,7 @@ use std::io::Write;
 /// Tells where threads trapped in outcomes, and where they stand in orders that are stuck, where lines are wanted: of
 /// each order that shows a place of which none before has told. The orders are run once more for it. Of a walk that was
 /// stopped it says which option lets it go on.
-pub(crate) fn tell_listed_ends<A: Allocator + Copy, E: Write>(
+pub(crate) fn tell_listed_ends<A: Allocator + Copy, E: Tell>(
     alloc: A,
     text: &str,
     threads: u32,
@@ -30,18 +31,30 @@ pub(crate) fn tell_listed_ends<A: Allocator + Copy, E: Write>(
         let mut shown = Vec::new(alloc);
         let (outcomes, stuck) = (found.outcomes.as_slice(), found.stuck.as_slice());
         tell_orders(
-            alloc, text, &accepted, threads, outcomes, &mut shown, teller.err,
+            alloc,
+            text,
+            &accepted,
+            threads,
+            outcomes,
+            &mut shown,
+            &mut teller.err,
         );
         tell_orders(
-            alloc, text, &accepted, threads, stuck, &mut shown, teller.err,
+            alloc,
+            text,
+            &accepted,
+            threads,
+            stuck,
+            &mut shown,
+            &mut teller.err,
         );
     }
-    tell_stop(found.end, teller.err);
+    tell_stop(found.end, &mut teller.err);
 }
 
 /// Tells where threads stand in orders that are stuck, where properties are asked and lines are wanted, as of listed
 /// ones. Of a walk that was stopped it says which option lets it go on.
-pub(crate) fn tell_asked_ends<A: Allocator + Copy, E: Write>(
+pub(crate) fn tell_asked_ends<A: Allocator + Copy, E: Tell>(
     alloc: A,
     text: &str,
     accepted: &Accepted<A>,
@@ -55,20 +68,26 @@ pub(crate) fn tell_asked_ends<A: Allocator + Copy, E: Write>(
     let mut shown = Vec::new(alloc);
     let stuck = found.stuck.as_slice();
     tell_orders(
-        alloc, text, accepted, threads, stuck, &mut shown, teller.err,
+        alloc,
+        text,
+        accepted,
+        threads,
+        stuck,
+        &mut shown,
+        &mut teller.err,
     );
     if found.is_answered {
         let _ = writeln!(
-            teller.err,
+            &mut teller.err,
             "txc: each property has its answer, so the search stopped; --keep-going continues it"
         );
     } else {
-        tell_stop(found.end, teller.err);
+        tell_stop(found.end, &mut teller.err);
     }
 }
 
 /// Says which option lets a walk go on that was stopped.
-pub(crate) fn tell_stop<E: Write>(end: WalkEnd, err: &mut E) {
+pub(crate) fn tell_stop<E: Tell>(end: WalkEnd, err: &mut E) {
     let words = match end {
         WalkEnd::Whole => return,
         WalkEnd::AtLimit => "--limit L is how many states it looks at",
@@ -79,7 +98,7 @@ pub(crate) fn tell_stop<E: Write>(end: WalkEnd, err: &mut E) {
 }
 
 /// Tells of each of these orders where threads stand.
-fn tell_orders<A: Allocator + Copy, E: Write>(
+fn tell_orders<A: Allocator + Copy, E: Tell>(
     alloc: A,
     text: &str,
     accepted: &Accepted<A>,
@@ -106,7 +125,7 @@ fn have_all_ended<A: Allocator>(threads: &[ThreadShown<A>]) -> bool {
 }
 
 /// Tells of an order where threads stand, if one stands at a place that was not shown yet.
-fn tell_order<A: Allocator + Copy, E: Write>(
+fn tell_order<A: Allocator + Copy, E: Tell>(
     alloc: A,
     text: &str,
     accepted: &Accepted<A>,
@@ -126,7 +145,7 @@ fn tell_order<A: Allocator + Copy, E: Write>(
 }
 
 /// Tells of which order what follows is, as a word of a command line.
-pub(crate) fn write_order<E: Write>(order: &[u32], err: &mut E) {
+pub(crate) fn write_order<E: Tell>(order: &[u32], err: &mut E) {
     let _ = err.write_all(b"txc: with --order ");
     if let [first, others @ ..] = order {
         let _ = write!(err, "{first}");

@@ -1,13 +1,15 @@
 //! Numbers in place of names of sources.
 
-ghost use Rattle.std.specs.Prelude.{◌≡◌, ◌≢◌, ◌≤◌, ◌⊎◌, [], IfErr, IfOk, IfSome, None, Some, option_map, true};
+ghost use Rattle.std.specs.Prelude.{◌≡◌, ◌≢◌, ◌≤◌, ◌⊎◌, [], IfErr, IfOk, IfSome, None, OnOk, Some, option_map, true};
 ghost use Rattle.serving.specs.Numbers.{IsWithNumbers, IsUsedInSource, ServesAsked, other_of, read_of, sources_of};
+ghost use Rattle.serving.specs.Told.{TellsAsked};
 ghost use Rattle.serving.specs.inner.Numbers.{AreUsedIn, contents_with, rest_of};
 
-use crate::files::{Files, read_bytes, serve_files};
+use crate::files::{Files, Served, read_bytes, serve_files};
 use crate::print::UNUSABLE;
 use crate::tell::{Detail, Teller, out_of_memory};
 use command::{Against, Asked, Format, Request};
+use fault_lines::Tell;
 use messages::write_shown;
 use parameters::{Definition, put_in, uses};
 use std::alloc::{AllocError, Global};
@@ -128,24 +130,12 @@ impl<'a, F: Files> Files for Numbered<'a, F> {
     }
 }
 
-/// What is read of a source, all of it or one byte more than a source may have. What hinders it is told, and the error is
-/// then the exit status.
-fn source_read<F: Files, E: Write>(
-    alloc: Global,
-    files: &F,
-    name: &str,
-    teller: &mut Teller<'_, E>,
-) -> Result<Vec<u8>, u8>
-    ensures read { IfOk result (λ v. IfSome (F.contents files.now name.now) (λ bytes. v.items ≡ read_of bytes)) }
-    ensures status { IfErr result (λ s. (s ≡ 2) ⊎ (s ≡ 4)) }
+/// What is read of a source, all of it or one byte more than a source may have.
+fn source_read<F: Files>(alloc: Global, files: &F, name: &str) -> io::Result<Vec<u8>>
+    ensures { IfOk result (λ v. IfSome (F.contents files.now name.now) (λ bytes. v.items ≡ read_of bytes)) }
 {
-    match files.open(name) {
-        Ok(file) => match read_bytes(alloc, file) {
-            Ok(bytes) => Ok(bytes),
-            Err(error) => Err(teller.not_read(name, &error)),
-        },
-        Err(error) => Err(teller.not_read(name, &error)),
-    }
+    let file = files.open(name)?;
+    read_bytes(alloc, file)
 }
 
 /// What was read of a source, with numbers in place of names. What is no text stays as it is.
@@ -239,6 +229,7 @@ fn both_numbered<E: Write>(
     ensures used { IfOk result (λ x. AreUsedIn bytes.now other.now definitions.now) }
     ensures first { IfOk result (λ x. IsWithNumbers definitions.now bytes.now x.0.items) }
     ensures second { IfOk result (λ x. IsWithNumbers definitions.now other.now x.1.items) }
+    ensures kept { OnOk result (E.contents err.new ≡ E.contents err.old) }
     ensures status { IfErr result (λ s. (s ≡ 2) ⊎ (s ≡ 4)) }
 {
     match first_unused(alloc, definitions, bytes, other) {
@@ -255,7 +246,12 @@ fn both_numbered<E: Write>(
 }
 
 /// Does what is asked over sources that were read, with numbers in place of their names.
-fn serve_read<H: Threads + Wait + Clock + Sync, F: Files, W: Write, E: Write + IsTerminal + Send>(
+fn serve_read<
+    H: Threads + Wait + Clock + Sync,
+    F: Files,
+    W: Write,
+    E: Tell + IsTerminal + Send + Drop,
+>(
     rt: &H,
     alloc: Global,
     asked: &Asked,
@@ -263,18 +259,21 @@ fn serve_read<H: Threads + Wait + Clock + Sync, F: Files, W: Write, E: Write + I
     sources: &Sources<'_>,
     read: (&[u8], &[u8]),
     out: &mut W,
-    err: &mut E,
-) -> u8
+    mut err: E,
+) -> Served<E>
     requires defined { asked.now.definitions.items ≢ [] }
     requires sources { sources_of asked.now.request ≡ Some (sources.now.file.now, sources.now.other.now) }
     requires read { IfSome (F.contents files.now sources.now.file.now) (λ bytes. read.0.now ≡ read_of bytes) }
     requires other { IfSome (F.contents files.now sources.now.other.now) (λ bytes. read.1.now ≡ read_of bytes) }
-    ensures status { result ≤ 5 }
-    ensures answer { ServesAsked asked.now (F.contents files.now) result (W.contents out.old) (W.contents out.new) }
+    ensures status { result.status ≤ 5 }
+    ensures answer { ServesAsked asked.now (F.contents files.now) result.status (W.contents out.old)
+        (W.contents out.new) }
+    ensures told { result.status ≡ 1
+        → TellsAsked asked.now (F.contents files.now) (E.contents err) (E.contents result.err) }
 {
     let (bytes, other) = read;
     let definitions = asked.definitions.as_slice();
-    match both_numbered(alloc, definitions, sources.file, bytes, other, err) {
+    match both_numbered(alloc, definitions, sources.file, bytes, other, &mut err) {
         Ok((bytes, other)) => {
             let numbered = Numbered {
                 files,
@@ -285,8 +284,23 @@ fn serve_read<H: Threads + Wait + Clock + Sync, F: Files, W: Write, E: Write + I
             };
             serve_files(rt, alloc, &asked.request, &numbered, out, err)
         }
-        Err(status) => status,
+        Err(status) => Served { status, err },
     }
+}
+
+/// Says that a source cannot be read.
+fn unread<E: Tell + IsTerminal>(
+    sources: &Sources<'_>,
+    name: &str,
+    error: &io::Error,
+    mut err: E,
+) -> Served<E>
+    ensures { (result.status ≡ 2) ⊎ (result.status ≡ 4) }
+{
+    let is_terminal = err.is_terminal();
+    let detail = Detail::of(sources.file, sources.verbose, sources.format, is_terminal);
+    let status = Teller::new(&mut err, detail).not_read(name, error);
+    Served { status, err }
 }
 
 /// Reads the sources, and then does what is asked with numbers in place of their names.
@@ -294,7 +308,7 @@ fn serve_sources<
     H: Threads + Wait + Clock + Sync,
     F: Files,
     W: Write,
-    E: Write + IsTerminal + Send,
+    E: Tell + IsTerminal + Send + Drop,
 >(
     rt: &H,
     alloc: Global,
@@ -302,33 +316,30 @@ fn serve_sources<
     files: &F,
     sources: &Sources<'_>,
     out: &mut W,
-    err: &mut E,
-) -> u8
+    err: E,
+) -> Served<E>
     requires defined { asked.now.definitions.items ≢ [] }
     requires sources { sources_of asked.now.request ≡ Some (sources.now.file.now, sources.now.other.now) }
-    ensures status { result ≤ 5 }
-    ensures answer { ServesAsked asked.now (F.contents files.now) result (W.contents out.old) (W.contents out.new) }
+    ensures status { result.status ≤ 5 }
+    ensures answer { ServesAsked asked.now (F.contents files.now) result.status (W.contents out.old)
+        (W.contents out.new) }
+    ensures told { result.status ≡ 1
+        → TellsAsked asked.now (F.contents files.now) (E.contents err) (E.contents result.err) }
 {
-    let detail = Detail::of(
-        sources.file,
-        sources.verbose,
-        sources.format,
-        err.is_terminal(),
-    );
-    let bytes = match source_read(alloc, files, sources.file, &mut Teller::new(err, detail)) {
+    let bytes = match source_read(alloc, files, sources.file) {
         Ok(bytes) => bytes,
-        Err(status) => return status,
+        Err(error) => return unread(sources, sources.file, &error, err),
     };
     if sources.other == sources.file {
         let read = (bytes.as_slice(), bytes.as_slice());
         return serve_read(rt, alloc, asked, files, sources, read, out, err);
     }
-    match source_read(alloc, files, sources.other, &mut Teller::new(err, detail)) {
+    match source_read(alloc, files, sources.other) {
         Ok(other) => {
             let read = (bytes.as_slice(), other.as_slice());
             serve_read(rt, alloc, asked, files, sources, read, out, err)
         }
-        Err(status) => status,
+        Err(error) => unread(sources, sources.other, &error, err),
     }
 }
 
@@ -338,16 +349,22 @@ pub fn serve_asked<
     H: Threads + Wait + Clock + Sync,
     F: Files,
     W: Write,
-    E: Write + IsTerminal + Send,
->(rt: &H, alloc: Global, asked: &Asked, files: &F, out: &mut W, err: &mut E) -> u8
-    ensures status { result ≤ 5 }
-    ensures answer { ServesAsked asked.now (F.contents files.now) result (W.contents out.old) (W.contents out.new) }
+    E: Tell + IsTerminal + Send + Drop,
+>(rt: &H, alloc: Global, asked: &Asked, files: &F, out: &mut W, mut err: E) -> Served<E>
+    ensures status { result.status ≤ 5 }
+    ensures answer { ServesAsked asked.now (F.contents files.now) result.status (W.contents out.old)
+        (W.contents out.new) }
+    ensures told { result.status ≡ 1
+        → TellsAsked asked.now (F.contents files.now) (E.contents err) (E.contents result.err) }
 {
     if asked.definitions.is_empty() {
         return serve_files(rt, alloc, &asked.request, files, out, err);
     }
     match sources_of(&asked.request) {
         Some(sources) => serve_sources(rt, alloc, asked, files, &sources, out, err),
-        None => sourceless(err),
+        None => Served {
+            status: sourceless(&mut err),
+            err,
+        },
     }
 }

@@ -7,6 +7,7 @@ ghost use Rattle.serving.specs.Refused.{IsRequestRefused};
 use crate::ask::ask;
 use crate::certify::certify;
 use crate::compared::compare;
+use crate::lossy::Lossy;
 use crate::request::{explain, explain_end, serve_program};
 use crate::tell::{Detail, Teller};
 use command::Request;
@@ -56,6 +57,7 @@ pub fn serve<
         (W.contents out.old) (W.contents out.new) }
     ensures untouched { result ≡ 1 → W.contents out.new ≡ W.contents out.old }
 {
+    let mut err = Lossy::new(err);
     match request {
         Request::Program {
             file,
@@ -97,7 +99,7 @@ pub fn serve<
             let mut teller = Teller::new(err, detail);
             ask(alloc, questions, source, out, &mut teller)
         }
-        Request::Explain { number } => explain(*number, out, err),
-        Request::ExplainEnd { word, number } => explain_end(word.as_str(), *number, out, err),
+        Request::Explain { number } => explain(*number, out, &mut err),
+        Request::ExplainEnd { word, number } => explain_end(word.as_str(), *number, out, &mut err),
     }
 }

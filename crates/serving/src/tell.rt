@@ -1,16 +1,18 @@
 //! What standard error is told.
 
-ghost use Rattle.std.specs.Prelude.{◌≡◌, ◌≢◌, ◌≤◌, ◌⊎◌, is_some, true};
-ghost use Rattle.serving.specs.Refusals.{span_of_source};
+ghost use Rattle.std.specs.Prelude.{◌≡◌, ◌≢◌, ◌≤◌, ◌⊎◌, [], None, is_some, true};
+ghost use Rattle.std.specs.Io.KnownBytes.{Appends};
 ghost use Rattle.std.specs.IoError.{error_kind};
+ghost use Rattle.fault_lines.specs.Lines.{fault_line};
+ghost use Rattle.serving.specs.Refusals.{span_of_source};
+ghost use Rattle.serving.specs.Told.{TellsMore, TellsFirst, TellsLine};
 ghost use Rattle.serving.specs.Usage.{IsHelp, IsWrong};
 
 use crate::print::{ENDED, REFUSED, STOPPED, UNUSABLE, print};
 use crate::program::SourceFault;
 use crate::run::thread_numbered;
 use command::{Format, UsageFault};
-use fault_lines::words;
-use lex::place;
+use fault_lines::{Tell, tell_fault, tell_number, words};
 use lex::token::Span;
 use meaning::MeaningFault;
 use messages::{Fault, hints, json_line, short_line, underline, write_shown};
@@ -39,7 +41,9 @@ pub struct Detail<'a> {
 
 impl<'a> Detail<'a> {
     /// How faults of a file's program are told, as the words ask and where standard error is a terminal or not.
-    pub fn of(file: &'a str, verbose: bool, format: Format, is_terminal: bool) -> Detail<'a> {
+    pub fn of(file: &'a str, verbose: bool, format: Format, is_terminal: bool) -> Detail<'a>
+        ensures { result.format ≡ format }
+    {
         Detail {
             lines: match format {
                 Format::Plain => verbose || is_terminal,
@@ -74,23 +78,26 @@ impl<'a> Detail<'a> {
 }
 
 /// Tells what is wrong with a file's program, and how far work on it is, as its detail asks. What is told in one way alone
-/// takes the writer. What the writer does not take is lost.
+/// takes the writer.
 #[derive(Drop)]
 pub struct Teller<'a, E: Write> {
     /// Where it is told.
-    pub(crate) err: &'a mut E,
+    pub(crate) err: E,
     /// How.
     pub(crate) detail: Detail<'a>,
 }
 
 impl<'a, E: Write> Teller<'a, E> {
     /// Tells it there, and so.
-    pub fn new(err: &'a mut E, detail: Detail<'a>) -> Teller<'a, E> {
+    pub fn new(err: E, detail: Detail<'a>) -> Teller<'a, E>
+        ensures err { result.err ≡ err }
+        ensures detail { result.detail ≡ detail }
+    {
         Teller { err, detail }
     }
 }
 
-impl<E: Write> Teller<'_, E> {
+impl<E: Tell> Teller<'_, E> {
     /// Says why a source is refused.
     pub(crate) fn refuse<A: Allocator + Copy>(
         &mut self,
@@ -103,6 +110,8 @@ impl<E: Write> Teller<'_, E> {
         ensures not_unusable { result ≢ 2 }
         ensures not_trapped { result ≢ 3 }
         ensures refused { result ≡ 1 → is_some (span_of_source fault) ≡ true }
+        ensures told { result ≡ 1 → self.old.detail.format ≡ Format.Plain
+            → TellsLine text.now fault (E.contents self.old.err) (E.contents self.new.err) }
     {
         let number = fault.number();
         match fault.span() {
@@ -110,7 +119,7 @@ impl<E: Write> Teller<'_, E> {
                 self.tell_with_line(alloc, text, number, span);
                 REFUSED
             }
-            None => out_of_memory(self.err),
+            None => out_of_memory(&mut self.err),
         }
     }
 
@@ -121,35 +130,96 @@ impl<E: Write> Teller<'_, E> {
         text: &str,
         number: u32,
         span: Span,
-    ) {
+    )
+        ensures told { self.old.detail.format ≡ Format.Plain
+            → TellsFirst (fault_line text.now number span) (E.contents self.old.err) (E.contents self.new.err) }
+        ensures more { TellsMore (E.contents self.old.err) (E.contents self.new.err) }
+    {
         self.tell_fault(alloc, text, number, span);
+        self.tell_more(alloc, text, number, span);
+    }
+
+    /// Shows the line of a fault, and where more is said of it, where that is wanted.
+    fn tell_more<A: Allocator + Copy>(&mut self, alloc: A, text: &str, number: u32, span: Span)
+        ensures { TellsMore (E.contents self.old.err) (E.contents self.new.err) }
+    {
         if self.detail.lines {
-            show_line(alloc, text, span, self.err);
-            show_hints(alloc, text, number, span, self.err);
-            show_where_more(number, self.err);
+            show_line(alloc, text, span, &mut self.err);
+            show_hints(alloc, text, number, span, &mut self.err);
+            show_where_more(number, &mut self.err);
         }
     }
 
     /// Tells the fault of a number at a span of the source. Where memory for another form is refused, that is the plain
     /// one.
-    fn tell_fault<A: Allocator + Copy>(&mut self, alloc: A, text: &str, number: u32, span: Span) {
-        if let Some(line) = line_of(alloc, text, number, span, self.detail) {
-            let _ = self.err.write_all(line.as_slice());
-        } else {
-            let (line, column) = place(text, span.start.min(text.len()));
-            let _ = writeln!(
-                self.err,
-                "txc: fault {number:02} at {line}:{column}: {}",
-                words(number)
-            );
+    fn tell_fault<A: Allocator + Copy>(&mut self, alloc: A, text: &str, number: u32, span: Span)
+        ensures told { self.old.detail.format ≡ Format.Plain
+            → Appends (E.contents self.old.err) (E.contents self.new.err) (fault_line text.now number span) }
+        ensures more { TellsMore (E.contents self.old.err) (E.contents self.new.err) }
+    {
+        match line_of(alloc, text, number, span, self.detail) {
+            Some(line) => self.err.tell(line.as_slice()),
+            None => tell_fault(text, number, span, &mut self.err),
         }
+    }
+
+    /// Says that a source has too many bytes.
+    pub(crate) fn too_long<A: Allocator + Copy>(&mut self, alloc: A) -> u8
+        ensures status { result ≡ 1 }
+        ensures told { self.old.detail.format ≡ Format.Plain → TellsFirst
+            (fault_line [] 5 (record { start = 0; «end» = 0 })) (E.contents self.old.err) (E.contents self.new.err) }
+    {
+        let span = Span { start: 0, end: 0 };
+        self.tell_fault(alloc, "", 5, span);
+        self.tell_hints(alloc, 5, span);
+        REFUSED
+    }
+
+    /// Shows hints on a fault that is at no line, and where more is said of it, where that is wanted.
+    fn tell_hints<A: Allocator + Copy>(&mut self, alloc: A, number: u32, span: Span)
+        ensures { TellsMore (E.contents self.old.err) (E.contents self.new.err) }
+    {
+        if self.detail.lines {
+            show_hints(alloc, "", number, span, &mut self.err);
+            show_where_more(number, &mut self.err);
+        }
+    }
+
+    /// Says why a schedule is refused.
+    pub(crate) fn refuse_schedule<A: Allocator + Copy>(
+        &mut self,
+        alloc: A,
+        text: &str,
+        fault: ScheduleFault,
+    ) -> u8
+        ensures { (result ≡ 2) ⊎ (result ≡ 4) }
+    {
+        match fault {
+            ScheduleFault::OutOfMemory => return out_of_memory(&mut self.err),
+            ScheduleFault::BadLine(line) => {
+                let _ = writeln!(self.err, "txc: fault {} at line {line}", fault.number());
+                if self.detail.lines {
+                    show_line(
+                        alloc,
+                        text,
+                        span_of_line(text.as_bytes(), line),
+                        &mut self.err,
+                    );
+                }
+            }
+            ScheduleFault::TooLong => {
+                let _ = writeln!(self.err, "txc: fault {}", fault.number());
+            }
+        }
+        self.show_words(fault.number());
+        UNUSABLE
     }
 
     /// Says what a fault's number means, where that is wanted, and where more is said.
     fn show_words(&mut self, number: u32) {
         if self.detail.lines {
             let _ = writeln!(self.err, "{}", words(number));
-            show_where_more(number, self.err);
+            show_where_more(number, &mut self.err);
         }
     }
 
@@ -158,7 +228,7 @@ impl<E: Write> Teller<'_, E> {
         ensures { result ≡ 2 }
     {
         let _ = self.err.write_all(b"txc: cannot read ");
-        let _ = write_shown(file, "", self.err);
+        let _ = write_shown(file, "", &mut self.err);
         let _ = if self.detail.reasons {
             writeln!(self.err, " ({error})")
         } else {
@@ -174,22 +244,9 @@ impl<E: Write> Teller<'_, E> {
         ensures others { error_kind error.now ≢ ErrorKind.OutOfMemory → result ≡ 2 }
     {
         match error.kind() {
-            ErrorKind::OutOfMemory => out_of_memory(self.err),
+            ErrorKind::OutOfMemory => out_of_memory(&mut self.err),
             _ => self.cannot_read(file, error),
         }
-    }
-
-    /// Says that a source has too many bytes.
-    pub(crate) fn too_long<A: Allocator + Copy>(&mut self, alloc: A) -> u8
-        ensures { result ≡ 1 }
-    {
-        let span = Span { start: 0, end: 0 };
-        self.tell_fault(alloc, "", 5, span);
-        if self.detail.lines {
-            show_hints(alloc, "", 5, span, self.err);
-            show_where_more(5, self.err);
-        }
-        REFUSED
     }
 
     /// Says why threads were not run.
@@ -197,7 +254,7 @@ impl<E: Write> Teller<'_, E> {
         ensures { result ≡ 4 }
     {
         match fault {
-            RunFault::OutOfMemory => out_of_memory(self.err),
+            RunFault::OutOfMemory => out_of_memory(&mut self.err),
             RunFault::Threads | RunFault::NotStarted => self.tell_number(fault.number(), STOPPED),
         }
     }
@@ -208,7 +265,7 @@ impl<E: Write> Teller<'_, E> {
     {
         if stop.reason == StopReason::Stranger {
             let _ = writeln!(
-                self.err,
+                &mut self.err,
                 "txc: fault {} at step {}",
                 stop.number(),
                 stop.step
@@ -216,31 +273,6 @@ impl<E: Write> Teller<'_, E> {
             self.show_words(stop.number());
         }
         STOPPED
-    }
-
-    /// Says why a schedule is refused.
-    pub(crate) fn refuse_schedule<A: Allocator + Copy>(
-        &mut self,
-        alloc: A,
-        text: &str,
-        fault: ScheduleFault,
-    ) -> u8
-        ensures { (result ≡ 2) ⊎ (result ≡ 4) }
-    {
-        match fault {
-            ScheduleFault::OutOfMemory => return out_of_memory(self.err),
-            ScheduleFault::BadLine(line) => {
-                let _ = writeln!(self.err, "txc: fault {} at line {line}", fault.number());
-                if self.detail.lines {
-                    show_line(alloc, text, span_of_line(text.as_bytes(), line), self.err);
-                }
-            }
-            ScheduleFault::TooLong => {
-                let _ = writeln!(self.err, "txc: fault {}", fault.number());
-            }
-        }
-        self.show_words(fault.number());
-        UNUSABLE
     }
 
     /// Says why an order is refused.
@@ -251,7 +283,7 @@ impl<E: Write> Teller<'_, E> {
         ensures threads { fault ≡ MeaningFault.WrongThreads → result ≡ 4 }
     {
         match fault {
-            MeaningFault::OutOfMemory => out_of_memory(self.err),
+            MeaningFault::OutOfMemory => out_of_memory(&mut self.err),
             MeaningFault::Stranger => self.tell_number(fault.number(), UNUSABLE),
             MeaningFault::WrongThreads => self.tell_number(fault.number(), STOPPED),
         }
@@ -270,6 +302,7 @@ impl<E: Write> Teller<'_, E> {
 /// Tells help, or why words are not a request. Gives the exit status.
 pub fn tell_usage<W: Write, E: Write>(fault: &UsageFault, out: &mut W, err: &mut E) -> u8
     ensures status { result ≤ 4 }
+    ensures not_refused { result ≢ 1 }
     ensures help { IsHelp fault.now → (result ≡ 0) ⊎ (result ≡ 4) }
     ensures wrong { IsWrong fault.now → result ≡ 2 }
     ensures memory { fault.now ≡ UsageFault.OutOfMemory → result ≡ 4 }
@@ -295,7 +328,9 @@ fn line_of<A: Allocator + Copy>(
     number: u32,
     span: Span,
     detail: Detail<'_>,
-) -> Option<Vec<u8, A>> {
+) -> Option<Vec<u8, A>>
+    ensures { detail.format ≡ Format.Plain → result ≡ None }
+{
     let fault = Fault {
         file: detail.file,
         text,
@@ -311,33 +346,36 @@ fn line_of<A: Allocator + Copy>(
 
 /// Shows the line of a source that a span begins in, with carets under the span. Where memory is refused it shows
 /// nothing.
-pub(crate) fn show_line<A: Allocator + Copy, E: Write>(
-    alloc: A,
-    text: &str,
-    span: Span,
-    err: &mut E,
-) {
+pub(crate) fn show_line<A: Allocator + Copy, E: Tell>(alloc: A, text: &str, span: Span, err: &mut E)
+    ensures { TellsMore (E.contents err.old) (E.contents err.new) }
+{
     if let Ok(shown) = underline(alloc, text, span) {
-        let _ = err.write_all(shown.as_str().as_bytes());
+        err.tell(shown.as_str().as_bytes());
     }
 }
 
 /// Shows what could stand at the place of a fault, or is meant there. Where memory is refused it shows nothing.
-fn show_hints<A: Allocator + Copy, E: Write>(
+fn show_hints<A: Allocator + Copy, E: Tell>(
     alloc: A,
     text: &str,
     number: u32,
     span: Span,
     err: &mut E,
-) {
+)
+    ensures { TellsMore (E.contents err.old) (E.contents err.new) }
+{
     if let Ok(shown) = hints(alloc, text, number, span) {
-        let _ = err.write_all(shown.as_str().as_bytes());
+        err.tell(shown.as_str().as_bytes());
     }
 }
 
 /// Says where more is said of a fault.
-fn show_where_more<E: Write>(number: u32, err: &mut E) {
-    let _ = writeln!(err, "txc explain {number:02} says more");
+fn show_where_more<E: Tell>(number: u32, err: &mut E)
+    ensures { TellsMore (E.contents err.old) (E.contents err.new) }
+{
+    err.tell(b"txc explain ");
+    tell_number(number, err);
+    err.tell(b" says more\n");
 }
 
 /// Says that memory was refused.

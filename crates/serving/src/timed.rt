@@ -1,5 +1,6 @@
 //! A writer that says how long something takes.
 
+use fault_lines::Tell;
 use std::io;
 use std::io::Write;
 use std::time::{Clock, Instant};
@@ -45,5 +46,11 @@ impl<W: Write, C: Clock> Write for Timed<'_, W, C> {
             Some(seconds) => write!(self.writer, ", {seconds} s")?,
         }
         self.writer.flush()
+    }
+}
+
+impl<W: Tell, C: Clock> Tell for Timed<'_, W, C> {
+    fn tell(&mut self, bytes: &[u8]) {
+        self.writer.tell(bytes)
     }
 }

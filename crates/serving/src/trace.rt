@@ -16,6 +16,7 @@ use crate::program::{Compiled, compile, unit_of};
 use crate::replays::{Replayed, print_for_replay, replay_code};
 use crate::tell::{Teller, out_of_memory, refuse_replay};
 use containers::Items;
+use fault_lines::Tell;
 use lex::lex;
 use meaning::{Reply, asked_program};
 use replay::Line;
@@ -29,7 +30,7 @@ use turns::{Source, Traced, push_passage, push_place, turns_shown};
 const MOST_TICKS: u64 = 1000000;
 
 /// Shows an order of a source's threads turn by turn, and what a function says of the last memory.
-pub(crate) fn trace<A: Allocator + Copy, W: Write, E: Write>(
+pub(crate) fn trace<A: Allocator + Copy, W: Write, E: Tell>(
     alloc: A,
     text: &str,
     threads: u32,
@@ -64,7 +65,7 @@ pub(crate) fn trace<A: Allocator + Copy, W: Write, E: Write>(
 
 /// Replays an order of a source's threads: the program, the schedule of the order, and what the replay leaves. What is
 /// wrong is told, and the error is then the exit status.
-fn traced<A: Allocator + Copy, E: Write>(
+fn traced<A: Allocator + Copy, E: Tell>(
     alloc: A,
     text: &str,
     threads: u32,
@@ -79,7 +80,7 @@ fn traced<A: Allocator + Copy, E: Write>(
         Ok(compiled) => match lines_asked(alloc, &compiled, threads, order, property, teller) {
             Ok(found) => match replay_code(alloc, &compiled, threads, found.as_slice()) {
                 Ok(replayed) => Ok((compiled, found, replayed)),
-                Err(fault) => Err(refuse_replay(fault, teller.err)),
+                Err(fault) => Err(refuse_replay(fault, &mut teller.err)),
             },
             Err(status) => Err(status),
         },
@@ -88,7 +89,7 @@ fn traced<A: Allocator + Copy, E: Write>(
 }
 
 /// The schedule of an order, if a function that is asked may be.
-fn lines_asked<A: Allocator + Copy, E: Write>(
+fn lines_asked<A: Allocator + Copy, E: Tell>(
     alloc: A,
     compiled: &Compiled<A>,
     threads: u32,
@@ -99,14 +100,14 @@ fn lines_asked<A: Allocator + Copy, E: Write>(
     ensures turns { IfOk result (λ v. AreTurnsOf compiled.now.code threads order.now v.items) }
     ensures status { IfErr result (λ s. (s ≡ 2) ⊎ (s ≡ 4)) }
 {
-    match refuse_property(alloc, compiled, property, teller.err) {
+    match refuse_property(alloc, compiled, property, &mut teller.err) {
         Some(status) => Err(status),
         None => lines_in_order(alloc, &compiled.code, threads, order, teller),
     }
 }
 
 /// The exit status with which it is told that a function may not be asked, if one is given that may not.
-fn refuse_property<A: Allocator + Copy, E: Write>(
+fn refuse_property<A: Allocator + Copy, E: Tell>(
     alloc: A,
     compiled: &Compiled<A>,
     property: Option<&str>,
@@ -121,7 +122,7 @@ fn refuse_property<A: Allocator + Copy, E: Write>(
 }
 
 /// Tells where threads trapped, if lines are wanted.
-fn tell_traps<A: Allocator + Copy, E: Write>(
+fn tell_traps<A: Allocator + Copy, E: Tell>(
     alloc: A,
     text: &str,
     replayed: &Replayed<A>,
@@ -134,7 +135,7 @@ fn tell_traps<A: Allocator + Copy, E: Write>(
 }
 
 /// Prints the trace of an order.
-fn print_trace<A: Allocator + Copy, W: Write, E: Write>(
+fn print_trace<A: Allocator + Copy, W: Write, E: Tell>(
     alloc: A,
     text: &str,
     compiled: &Compiled<A>,
@@ -152,7 +153,7 @@ fn print_trace<A: Allocator + Copy, W: Write, E: Write>(
     let stood = replayed.stood.as_slice();
     match trace_of(alloc, text, compiled, threads, lines, property, stood) {
         Some(written) => print_for_replay(written.as_slice(), replayed, out, teller),
-        None => out_of_memory(teller.err),
+        None => out_of_memory(&mut teller.err),
     }
 }
 

@@ -2,7 +2,7 @@
 
 use crate::opened::{Found, NONE, Opened, REFUSED, Told};
 use crate::served::Closed;
-use serving::{Files, serve_asked, tell_usage};
+use serving::{Files, Lossy, serve_asked, tell_usage};
 use std::alloc::Global;
 use std::io;
 use std::io::{ErrorKind, Write};
@@ -299,7 +299,7 @@ fn answer<H: Threads + Wait + Clock + Sync, W: Write>(
     told: &mut Told,
 ) -> u8 {
     match asked_of(alloc, line) {
-        Ok(asked) => serve_asked(rt, alloc, &asked, files, out, told),
+        Ok(asked) => serve_asked(rt, alloc, &asked, files, out, Lossy::new(told)).status,
         Err(fault) => tell_usage(&fault, out, told),
     }
 }

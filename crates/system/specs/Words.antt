@@ -4,6 +4,7 @@ use Rattle.command.specs.Asked.{AskHelp, AskNothing, Requests}
 use Rattle.command.specs.declared.request.Asked.{Asked}
 use Rattle.serving.specs.Files.{Contents}
 use Rattle.serving.specs.Numbers.{ServesAsked}
+use Rattle.serving.specs.Told.{TellsAsked}
 use Rattle.system.specs.Kept.{AreKnown}
 
 -- A request is answered, with numbers in place of names if `-D` is given, and each file that it names was read; or
@@ -20,3 +21,7 @@ AnswersWords words contents status old new =
     ⊎ AskHelp words × ((status ≡ 0) ⊎ (status ≡ 4))
     ⊎ AskNothing words × (status ≡ 2) × (new ≡ old)
     ⊎ (status ≡ 4) × (new ≡ old)
+
+-- words make a request, and this is told of a source of it that is refused
+abbrev pub TellsWords : List (List ℕ) → Contents → (old new : Option (List ℕ)) → Type 0
+TellsWords words contents old new = (asked : Asked) × Requests words asked × TellsAsked asked contents old new

@@ -2,6 +2,7 @@
 //! printed and the files that were read.
 #![tactic(auto)]
 
+mod diagnostics;
 mod kept;
 mod recorder;
 mod sent;

@@ -4,7 +4,7 @@
 ghost use Rattle.std.specs.Prelude.{◌≡◌, ◌≤◌, [], IfOk, None, Some, map, string_bytes};
 ghost use Rattle.std.specs.Io.KnownBytes.{Appends};
 ghost use Rattle.system.specs.Kept.{AreReadFrom, kept_in};
-ghost use Rattle.system.specs.Words.{AnswersWords};
+ghost use Rattle.system.specs.Words.{AnswersWords, TellsWords};
 
 use serving::{Files, unread_words};
 use std::alloc::{AllocError, Global};
@@ -22,15 +22,7 @@ fn main(rt: HostRuntime) -> ExitCode {
     let status = match words_given(&rt) {
         Ok(words) => {
             let words = words.as_slice();
-            answer(
-                &rt,
-                rt.alloc(),
-                words,
-                &files,
-                rt.stdout(),
-                &mut rt.stderr(),
-            )
-            .status
+            answer(&rt, rt.alloc(), words, &files, rt.stdout(), rt.stderr()).status
         }
         Err(kind) => unread_words(kind, &mut rt.stderr()),
     };
@@ -64,19 +56,22 @@ fn answer<
     H: Threads + Wait + Clock + Sync,
     F: Files,
     W: Write + Drop,
-    E: Write + IsTerminal + Send,
->(handle: &H, alloc: Global, words: &[String], files: &F, out: W, err: &mut E) -> Answer<W>
+    E: Write + IsTerminal + Send + Drop,
+>(handle: &H, alloc: Global, words: &[String], files: &F, out: W, mut err: E) -> Answer<W>
     ensures status { result.status ≤ 5 }
     ensures answer { AnswersWords (map string_bytes words.now) (kept_in result.files.items) result.status
         (Some []) (Some result.printed.bytes) }
+    ensures told { result.status ≡ 1 → TellsWords (map string_bytes words.now) (kept_in result.files.items) (Some [])
+        (Some result.told.bytes) }
     ensures passed { Appends (W.contents out) (W.contents result.out) result.printed.bytes }
     ensures read { AreReadFrom (F.contents files.now) result.files.items }
 {
     match lent(alloc, words) {
         Ok(words) => serve_words(handle, alloc, words.as_slice(), files, out, err),
         Err(AllocError) => Answer {
-            status: unread_words(ErrorKind::OutOfMemory, err),
+            status: unread_words(ErrorKind::OutOfMemory, &mut err),
             printed: Sent::new(),
+            told: Sent::new(),
             files: Vec::new(alloc),
             out,
         },
