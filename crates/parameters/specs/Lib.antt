@@ -1,4 +1,4 @@
--- names and the numbers that stand in their places
+-- names and the numbers that replace them
 pub mod Definitions
 -- a text with numbers in their places
 pub mod Puts

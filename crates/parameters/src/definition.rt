@@ -18,7 +18,7 @@ pub struct Number {
     pub magnitude: u64,
 }
 
-/// A name of a source, and the number that stands in its place.
+/// A name of a source, and the number that replaces it.
 #[derive(Debug, Drop)]
 pub struct Definition {
     pub name: String,

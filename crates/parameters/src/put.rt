@@ -47,7 +47,7 @@ fn padded_text<A: Allocator>(
     Ok(text)
 }
 
-/// The number that stands in place of a name, if one does.
+/// The number that replaces a name, if one does.
 fn number_for(definitions: &[Definition], name: &str) -> Option<Number>
     ensures { result ≡ number_for definitions.now name.now }
 {

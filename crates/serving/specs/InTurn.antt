@@ -2,8 +2,9 @@
 use Rattle.std.specs.Prelude.{◌≡◌, ◌≢◌, ◌⊎◌, ◌++◌, ◌-◌, ℕ, zero, suc, List, Option}
 use Rattle.command.specs.declared.request.ThreadRange.{ThreadRange}
 
--- The meaning of a status for a number of threads and so many numbers after it. They are asked in turn, up to the first
--- whose status is not 0. The status is that of the last number that is asked, and each answer follows the one before.
+-- The meaning of a status for a number of threads and this many numbers after it. The search is repeated for each
+-- number in turn, up to the first whose status is not 0. The status is that of the last search. Each answer follows the
+-- one before.
 module _ (Says : (threads status : ℕ) → (old new : Option (List ℕ)) → Type 0) where
   abbrev pub SaysInTurn : (more threads status : ℕ) → (old new : Option (List ℕ)) → Type 0
   SaysInTurn zero threads status old new = Says threads status old new
@@ -14,7 +15,7 @@ module _ (Says : (threads status : ℕ) → (old new : Option (List ℕ)) → Ty
   abbrev pub SaysOfRange : ThreadRange → (status : ℕ) → (old new : Option (List ℕ)) → Type 0
   SaysOfRange range status old new = SaysInTurn (range.last - range.first) range.first status old new
 
--- texts for a number of threads, and for some of so many numbers after it, one after another
+-- texts for a number of threads, and for some of this many numbers after it, one after another
 module _ (IsText : (threads : ℕ) → List ℕ → Type 0) where
   abbrev pub AreTextsInTurn : (more threads : ℕ) → List ℕ → Type 0
   AreTextsInTurn zero threads written = IsText threads written

@@ -30,7 +30,7 @@ impl Sent {
         Sent {}
     }
 
-    /// These bytes, and a piece behind them.
+    /// These bytes, followed by a piece.
     pub(crate) fn then(&self, _piece: &Piece<'_>) -> Sent
         ensures { result.bytes ≡ self.now.bytes ++ _piece.now.bytes.now }
     {

@@ -28,7 +28,7 @@ fn rows() -> &'static [Row] {
     &ROWS
 }
 
-/// Whether the order to each state has the length of its depth, and is told to be a shortest one.
+/// Whether the order to each state has the length of its depth, and is known to be a shortest one.
 fn are_shortest<A: Allocator + Copy>(walk: &Walk<A>) -> bool
     requires { (code : Code) × IsWalk code walk.now }
 {

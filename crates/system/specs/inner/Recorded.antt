@@ -1,4 +1,4 @@
--- That a writer was passed what is recorded has at most one proof.
+-- There is at most one proof that a writer was passed the recorded bytes.
 use Rattle.std.specs.Prelude.{ℕ, List, ◌++◌, Option, Some, None}
 use Rattle.std.specs.Coded.{Coded-set, coded_list, coded_ℕ, Unit-prop}
 use Rattle.std.specs.Io.KnownBytes.{Appends}
