@@ -33,7 +33,9 @@ Option = collections.namedtuple("Option", "name value help")
 Command = collections.namedtuple("Command", "name about example takes options")
 
 # Options whose value is a file, and those whose value is one of some words.
-FILES, CHOICES = ["expect", "order-file", "refines", "report", "schedule"], {"format": ["short", "json"]}
+FILES, CHOICES = ["expect", "order-file", "refines", "report", "schedule"], {"format": ["short", "json", "github"]}
+# The words of options of one command.
+CHOICES_OF = {("test", "format"): ["github", "json"]}
 HELP = Option("help", None, "Print help")
 VERSION = Option("version", None, "Print version")
 
@@ -94,18 +96,32 @@ def words_of(command):
     return " ".join(dashed(it.name) for it in [*command.options, HELP])
 
 
+def choices(command, option):
+    """The words that an option of a command takes, if these are fixed."""
+    return CHOICES_OF.get((command, option), CHOICES.get(option, []))
+
+
+def bash_choices():
+    """The cases of options with fixed words."""
+    for option, words in CHOICES.items():
+        lines = [f"            words='{' '.join(words)}'"]
+        for (command, its), others in CHOICES_OF.items():
+            if its == option:
+                lines.append(f"            [[ ${{COMP_WORDS[1]}} == {command} ]] && words='{' '.join(others)}'")
+        yield f"        --{option})\n" + "\n".join(lines) + " ;;\n"
+
+
 def bash_text(_, commands):
     """What bash reads."""
     with_value = [it for command in commands for it in command.options if it.value]
     free = sorted({dashed(it.name) for it in with_value} - {f"--{it}" for it in [*FILES, *CHOICES]})
     named = " ".join(it.name for it in commands)
     cases = "".join(f"                    {it.name}) words='{words_of(it)}' ;;\n" for it in commands)
-    choices = "".join(f"        --{name}) words='{' '.join(its)}' ;;\n" for name, its in CHOICES.items())
     return f"""\
 _txc() {{
     local word=${{COMP_WORDS[COMP_CWORD]}} words=
     case ${{COMP_WORDS[COMP_CWORD - 1]}} in
-{choices}        --{" | --".join(FILES)}) ;;
+{"".join(bash_choices())}        --{" | --".join(FILES)}) ;;
         {" | ".join(free)}) return ;;
         *)
             if ((COMP_CWORD == 1)); then
@@ -133,9 +149,9 @@ def quoted(text):
     return "'" + text.replace("'", "'\\''") + "'"
 
 
-def zsh_option(option):
+def zsh_option(option, command=""):
     told = option.help.replace("\\", "\\\\").replace("[", "\\[").replace("]", "\\]")
-    action = "_files" if option.name in FILES else f"({' '.join(CHOICES.get(option.name, []))})"
+    action = "_files" if option.name in FILES else f"({' '.join(choices(command, option.name))})"
     behind = f":{option.value}:{'' if action == '()' else action}" if option.value else ""
     many = "*" if len(option.name) == 1 else ""
     return quoted(f"{many}{dashed(option.name)}[{told}]{behind}")
@@ -146,8 +162,9 @@ def zsh_text(_, commands):
     described = "".join(f"                {quoted(f'{it.name}:{it.about}')}\n" for it in commands)
     cases = []
     for it in commands:
-        words = [zsh_option(option) for option in [*it.options, HELP]]
-        words.append(quoted("1:FILE:_files") if it.takes == "FILE" else quoted(f"1:{it.takes}:({' '.join(ends())})"))
+        words = [zsh_option(option, it.name) for option in [*it.options, HELP]]
+        files = "*:FILE:_files" if it.name == "test" else "1:FILE:_files"
+        words.append(quoted(files) if it.takes == "FILE" else quoted(f"1:{it.takes}:({' '.join(ends())})"))
         cases.append(f"                {it.name}) _arguments " + " \\\n                    ".join(words) + " ;;\n")
     return f"""\
 #compdef txc
@@ -179,7 +196,8 @@ def fish_text(_, commands):
         lines.append(f"{seen} -F" if it.takes == "FILE" else f"{seen} -a {quoted(' '.join(ends()))}")
         for option in [*it.options, HELP]:
             takes = " -r -F" if option.name in FILES else " -x" if option.value else ""
-            takes += f" -a {quoted(' '.join(CHOICES[option.name]))}" if option.name in CHOICES else ""
+            words = choices(it.name, option.name)
+            takes += f" -a {quoted(' '.join(words))}" if words else ""
             form = "-s" if len(option.name) == 1 else "-l"
             lines.append(f"{seen} {form} {option.name}{takes} -d {quoted(option.help)}")
     return "\n".join(lines) + "\n"

@@ -46,6 +46,7 @@ PROMISES = (
         "SaysOfRange PrintsOutcomes PrintsReport RunsInSomeOrder OrdersAreListed OutcomesAreDone",
     ),
     ("`txc outcomes --always`, `--final`", "AnswersQuestions"),
+    ("`txc outcomes --threads any`", "AnswersCoverage"),
     ("`txc outcomes --refines`, `--expect`", "ComparesOutcomes"),
     ("`txc certify`", "CertifiesReport"),
     ("`txc replay`, by the source alone", "PrintsReport RunsInSomeOrder behind_events"),

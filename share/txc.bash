@@ -2,12 +2,14 @@
 _txc() {
     local word=${COMP_WORDS[COMP_CWORD]} words=
     case ${COMP_WORDS[COMP_CWORD - 1]} in
-        --format) words='short json' ;;
+        --format)
+            words='short json github'
+            [[ ${COMP_WORDS[1]} == test ]] && words='github json' ;;
         --expect | --order-file | --refines | --report | --schedule) ;;
-        --always | --budget | --final | --from | --limit | --memory | --order | --property | --seed | --steps | --threads | --ticks) return ;;
+        --always | --budget | --final | --from | --limit | --memory | --order | --property | --seed | --steps | --threads | --ticks | --time) return ;;
         *)
             if ((COMP_CWORD == 1)); then
-                words='check listing run replay source trace outcomes certify explain --help --version'
+                words='check listing run replay source trace explore outcomes certify test explain --help --version'
             elif [[ $word == -* ]]; then
                 case ${COMP_WORDS[1]} in
                     check) words='--verbose --format --warn --all --help' ;;
@@ -15,9 +17,11 @@ _txc() {
                     run) words='--verbose --format --threads --budget --counts --memory --help' ;;
                     replay) words='--verbose --format --threads --schedule --seed --steps --order --timeline --picture --from --print-schedule --help' ;;
                     source) words='--verbose --format --threads --order --ticks --help' ;;
-                    trace) words='--verbose --format --threads --order --property --help' ;;
-                    outcomes) words='--verbose --format --threads --steps --limit --memory --refines --expect --always --final --keep-going --help' ;;
+                    trace) words='--verbose --format --threads --order --property --full --help' ;;
+                    explore) words='--verbose --format --threads --order --always --help' ;;
+                    outcomes) words='--verbose --format --threads --steps --limit --memory --time --refines --expect --always --final --keep-going --trace --help' ;;
                     certify) words='--verbose --format --threads --order-file --report --ticks --help' ;;
+                    test) words='--format --list --help' ;;
                     explain) words='--help' ;;
                 esac
             elif [[ ${COMP_WORDS[1]} == explain ]] && ((COMP_CWORD == 2)); then

@@ -14,3 +14,5 @@ void worker(int self) {
     __transaction_atomic { count = count + 1; }
     __transaction_atomic { steps = 0; }
 }
+
+// txc: --threads 2 --always average_is_small,comes_to_an_end --steps 1000 (fails)

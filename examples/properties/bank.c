@@ -20,3 +20,5 @@ void worker(int self) {
         }
     }
 }
+
+// txc: --threads 2..3 --always kept,covered

@@ -14,3 +14,6 @@ void worker(int self) {
         if (free) __transaction_atomic { account[to] = account[to] + 10; }
     }
 }
+
+// txc: --threads 2 --final kept
+// txc: --threads 2 --always kept (fails)

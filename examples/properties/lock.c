@@ -12,3 +12,5 @@ void worker(int self) {
     __transaction_atomic { inside = inside - 1; entered = entered + 1; }
     __transaction_atomic { taken = 0; }
 }
+
+// txc: --threads 2..4 --always alone

@@ -17,3 +17,5 @@ void worker(int self) {
     __transaction_atomic { eating[left] = 0; meals = meals + 1; }
     __transaction_atomic { taken[left] = 0; taken[right] = 0; }
 }
+
+// txc: --threads 2..3 --always neighbours_wait

@@ -20,3 +20,6 @@ void worker(int self) {
     __transaction_atomic { eating[left] = 0; meals = meals + 1; }
     __transaction_atomic { taken[left] = 0; taken[right] = 0; }
 }
+
+// txc: --threads 2 --always neighbours_wait
+// txc: --threads 3 --always neighbours_wait (stuck)

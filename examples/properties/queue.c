@@ -20,3 +20,6 @@ void worker(int self) {
         } while (!done);
     }
 }
+
+// txc: --threads 2 --always within --final all_taken
+// txc: --threads 4 --always within --final all_taken

@@ -15,3 +15,5 @@ void worker(int self) {
         if (count > 0) { sum = sum + slots[head]; head = (head + 1) % 2; count = count - 1; }
     }
 }
+
+// txc: --threads 2..3 --always within (fails)

@@ -12,3 +12,5 @@ void worker(int self) {
         }
     }
 }
+
+// txc: --threads 2..4 --always no_seat_twice

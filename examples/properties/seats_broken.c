@@ -13,3 +13,6 @@ void worker(int self) {
         }
     }
 }
+
+// txc: --threads 2 --always no_seat_twice
+// txc: --threads 3 --always no_seat_twice (fails)

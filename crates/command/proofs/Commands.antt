@@ -12,11 +12,11 @@ use Rattle.command.specs.Line.{program_app}
 use Rattle.command.specs.Asked.{AskNothing, Requests, Refuses}
 use Rattle.command.specs.inner.Refusals.{IsOwn, HasGiven, SaysError}
 
-program_app-is_simple : is_simple program_app ≡ true
+pub program_app-is_simple : is_simple program_app ≡ true
 unfolding clap_on_literals
 program_app-is_simple = refl
 
-program_app-is_free : is_simple_and_free program_app ≡ true
+pub program_app-is_free : is_simple_and_free program_app ≡ true
 unfolding clap_on_literals
 program_app-is_free = refl
 

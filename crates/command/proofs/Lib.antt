@@ -14,3 +14,5 @@ mod Ranges
 mod Tasks
 -- what words define
 mod Defining
+-- command lines that test files
+mod Testing

@@ -12,14 +12,17 @@ use Rattle.command.specs.declared.request.Against.{Against}
 use Rattle.command.specs.declared.request.Against.TheVariants.{Refined, Expected}
 use Rattle.command.specs.declared.request.Claim.{Claim}
 use Rattle.command.specs.declared.request.Comparison.{Comparison}
+use Rattle.command.specs.declared.request.Coverage.{Coverage}
 use Rattle.command.specs.declared.request.Format.{Format}
-use Rattle.command.specs.declared.request.Format.TheVariants.{Plain, Short, Json}
+use Rattle.command.specs.declared.request.Format.TheVariants.{Plain, Short, Json, Github}
 use Rattle.command.specs.declared.request.Request.{Request}
-use Rattle.command.specs.declared.request.Request.TheVariants.{Program, Certify, Compare, Ask, Explain, ExplainEnd}
+use Rattle.command.specs.declared.request.Request.TheVariants.{Program, Certify, Compare, Ask, Cover}
+use Rattle.command.specs.declared.request.Request.TheVariants.{Explain, ExplainEnd}
 use Rattle.command.specs.declared.request.Questions.{Questions}
 use Rattle.command.specs.declared.request.Task.{Task}
 use Rattle.command.specs.declared.request.Task.TheVariants.{Check, Listing, Run, Replay, Timeline, Picture}
-use Rattle.command.specs.declared.request.Task.TheVariants.{PrintOrder, PrintSchedule, Source, Trace, Outcomes}
+use Rattle.command.specs.declared.request.Task.TheVariants.{PrintOrder, PrintSchedule, Source, Trace, Explore}
+use Rattle.command.specs.declared.request.Task.TheVariants.{Outcomes}
 use Rattle.command.specs.declared.request.Steps.{Steps}
 use Rattle.command.specs.declared.request.Steps.TheVariants.{Order, Schedule, Seed}
 use Rattle.command.specs.declared.request.UsageFault.{UsageFault}
@@ -106,6 +109,10 @@ pub record IsOrderGiven (given : List Row) (order : List ℕ) : Type 0 where
   pub text : Text
   pub said : first_of (codes "order") given ≡ Some text
   pub listed : IsOrder text order
+
+-- the order at which a page opens; it is empty if none is given
+abbrev pub IsOrderOpened : List Row → List ℕ → Type 0
+IsOrderOpened given order = IsOrderGiven given order ⊎ ((first_of (codes "order") given ≡ None) × (order ≡ []))
 
 -- an order of threads, and neither a schedule nor a seed; a number of steps has no effect then, and still has to be in
 -- its range
@@ -197,14 +204,19 @@ IsTask name given (PrintOrder threads order) = (name ≡ codes "replay") × AreT
 IsTask name given (Source threads order ticks) = (name ≡ codes "source") × AreThreadsGiven given threads
     × IsOrderGiven given order.items
     × IsNumberInRange given (codes "ticks") 100000 0 1000000 ticks
-IsTask name given (Trace threads order property) = (name ≡ codes "trace")
+IsTask name given (Trace threads order property in_full) = (name ≡ codes "trace")
     × IsNumberInRange given (codes "threads") 2 1 64 threads
     × IsOrderGiven given order.items × (option_map string_bytes property ≡ first_of (codes "property") given)
-IsTask name given (Outcomes threads steps limit memory) = (name ≡ codes "outcomes")
+    × (IsTrue in_full ↔ IsFlagged given (codes "full"))
+IsTask name given (Explore threads order always) = (name ≡ codes "explore")
+    × IsNumberInRange given (codes "threads") 2 1 64 threads
+    × IsOrderOpened given order.items × (option_map string_bytes always ≡ first_of (codes "always") given)
+IsTask name given (Outcomes threads steps limit memory time traces) = (name ≡ codes "outcomes")
     × AreThreadsExplored given threads.first threads.last
     × IsNumberInRange given (codes "steps") 1000000 0 4294967295 steps
     × IsNumberInRange given (codes "limit") 1000000 0 4294967295 limit
-    × IsNumberInRange given (codes "memory") 1024 0 4294967295 memory × AreUncompared given × (are_asked given ≡ false)
+    × IsNumberInRange given (codes "memory") 1024 0 4294967295 memory × IsNumberRead (one_of (codes "time") given) time
+    × AreUncompared given × (are_asked given ≡ false) × (IsTrue traces ↔ IsFlagged given (codes "trace"))
 
 -- the properties to check: functions that must hold in every state, and those that must hold in every outcome
 pub record AreQuestions (given : List Row) (questions : Questions) : Type 0 where
@@ -212,9 +224,27 @@ pub record AreQuestions (given : List Row) (questions : Questions) : Type 0 wher
   pub steps : IsNumberInRange given (codes "steps") 1000000 0 4294967295 questions.steps
   pub limit : IsNumberInRange given (codes "limit") 1000000 0 4294967295 questions.limit
   pub memory : IsNumberInRange given (codes "memory") 1024 0 4294967295 questions.memory
+  pub time : IsNumberRead (one_of (codes "time") given) questions.time
   pub always : option_map string_bytes questions.always ≡ first_of (codes "always") given
   pub last : option_map string_bytes questions.last ≡ first_of (codes "final") given
   pub keeps_going : IsTrue questions.keeps_going ↔ IsFlagged given (codes "keep-going")
+  pub traces : IsTrue questions.traces ↔ IsFlagged given (codes "trace")
+
+-- `any` is given instead of a number of threads
+pub record IsAnyNumber (given : List Row) : Type 0 where
+  pub said : first_of (codes "threads") given ≡ Some (codes "any")
+  pub no_number : IsSomeAnd (one_of (codes "threads") given) IsNoNumber
+
+-- the functions that must hold for every number of threads
+pub record IsCoverageAsked (given : List Row) (coverage : Coverage) : Type 0 where
+  pub any : IsAnyNumber given
+  pub uncompared : AreUncompared given
+  pub none_last : first_of (codes "final") given ≡ None
+  pub none_timed : first_of (codes "time") given ≡ None
+  pub steps : IsNumberInRange given (codes "steps") 1000000 0 4294967295 coverage.steps
+  pub limit : IsNumberInRange given (codes "limit") 1000000 0 4294967295 coverage.limit
+  pub memory : IsNumberInRange given (codes "memory") 1024 0 4294967295 coverage.memory
+  pub always : first_of (codes "always") given ≡ Some (string_bytes coverage.always)
 
 -- a file of an order, and one of a report; at most one of these and the source is standard input
 pub record AreClaimFiles (given : List Row) (order report : Text) : Type 0 where
@@ -252,6 +282,7 @@ pub record IsComparison (given : List Row) (comparison : Comparison) : Type 0 wh
   pub steps : IsNumberInRange given (codes "steps") 1000000 0 4294967295 comparison.steps
   pub limit : IsNumberInRange given (codes "limit") 1000000 0 4294967295 comparison.limit
   pub memory : IsNumberInRange given (codes "memory") 1024 0 4294967295 comparison.memory
+  pub time : IsNumberRead (one_of (codes "time") given) comparison.time
   pub against : IsAgainst given comparison.against
   pub listed : IsListedFor comparison.against comparison.threads.first comparison.threads.last
 
@@ -260,6 +291,7 @@ abbrev pub IsFormat : Option Text → Format → Type 0
 IsFormat text Plain = text ≡ None
 IsFormat text Short = text ≡ Some (codes "short")
 IsFormat text Json = text ≡ Some (codes "json")
+IsFormat text Github = text ≡ Some (codes "github")
 
 -- a command and the values of its arguments make this request
 abbrev pub IsRequest : Text → List Row → Request → Type 0
@@ -278,6 +310,10 @@ IsRequest name given (Ask file verbose format questions) =
     (first_of (codes "FILE") given ≡ Some (string_bytes file))
     × (IsTrue verbose ↔ IsFlagged given (codes "verbose")) × IsFormat (first_of (codes "format") given) format
     × (name ≡ codes "outcomes") × AreUncompared given × (are_asked given ≡ true) × AreQuestions given questions
+IsRequest name given (Cover file verbose format coverage) =
+    (first_of (codes "FILE") given ≡ Some (string_bytes file))
+    × (IsTrue verbose ↔ IsFlagged given (codes "verbose")) × IsFormat (first_of (codes "format") given) format
+    × (name ≡ codes "outcomes") × IsCoverageAsked given coverage
 IsRequest name given (Explain number) =
     (name ≡ codes "explain") × IsGiven given (codes "NN") number × (one_of (codes "N") given ≡ None)
 IsRequest name given (ExplainEnd word number) = (name ≡ codes "explain")
@@ -286,7 +322,8 @@ IsRequest name given (ExplainEnd word number) = (name ≡ codes "explain")
 
 -- the default number of threads of a command
 abbrev pub default_threads : Text → ℕ
-default_threads name = if bytes_eq name (codes "outcomes") || bytes_eq name (codes "trace") then 2 else 1
+default_threads name =
+    if bytes_eq name (codes "outcomes") || bytes_eq name (codes "trace") || bytes_eq name (codes "explore") then 2 else 1
 
 -- the number of threads of a command, if it is a single one and no range; a command without threads has one
 abbrev pub IsCountOfThreads : Text → List Row → Option ℕ → Type 0
@@ -313,7 +350,7 @@ has_twice (n ∷ ns) = if is_among n ns then true else has_twice ns
 abbrev pub words_defining : List Row → List Text
 words_defining given = unwrap_or (all_of (codes "define") given) []
 
--- the numbers that stand in place of names; without `-D` there are none
+-- the numbers that replace names; without `-D` there are none
 pub record AreDefinitions (name : Text) (given : List Row) (ds : List Definition) : Type 0 where
   pub threads : Option ℕ
   pub counted : IsCountOfThreads name given threads

@@ -7,7 +7,11 @@ use Rattle.clap.specs.declared.builder.ArgAction.TheVariants.{Append, Set, SetTr
 abbrev pub file_rule : Rule
 file_rule = record (new_rule (codes "FILE")) { required = true; action = Some Set }
 
--- a flag of this name
+-- files with programs
+abbrev pub files_rule : Rule
+files_rule = record (new_rule (codes "FILE")) { required = true; action = Some Append }
+
+-- one or more files with programs
 abbrev pub flag_rule : Text → Rule
 flag_rule name = record (new_rule name) { long = Some name; action = Some SetTrue }
 
@@ -74,25 +78,36 @@ source_app =
 abbrev pub trace_app : App
 trace_app =
     let threads = with_rule (file_app (codes "trace")) (text_rule (codes "threads")) in
-    with_rule (with_rule threads order_rule) (text_rule (codes "property"))
+    with_rule (with_rule (with_rule threads order_rule) (text_rule (codes "property"))) (flag_rule (codes "full"))
+
+abbrev pub explore_app : App
+explore_app =
+    let threads = with_rule (file_app (codes "explore")) (text_rule (codes "threads")) in
+    with_rule (with_rule threads (text_rule (codes "order"))) (text_rule (codes "always"))
 
 abbrev pub outcome_states_app : App
 outcome_states_app =
     let threads = with_rule (file_app (codes "outcomes")) (text_rule (codes "threads")) in
     let limits = with_rule (with_rule threads (text_rule (codes "steps"))) (text_rule (codes "limit")) in
-    let memory = with_rule limits (text_rule (codes "memory")) in
-    with_rule (with_rule memory (text_rule (codes "refines"))) (text_rule (codes "expect"))
+    let space = with_rule (with_rule limits (text_rule (codes "memory"))) (text_rule (codes "time")) in
+    with_rule (with_rule space (text_rule (codes "refines"))) (text_rule (codes "expect"))
 
 abbrev pub outcomes_app : App
 outcomes_app =
     let always = with_rule outcome_states_app (text_rule (codes "always")) in
-    with_rule (with_rule always (text_rule (codes "final"))) (flag_rule (codes "keep-going"))
+    let last = with_rule always (text_rule (codes "final")) in
+    with_rule (with_rule last (flag_rule (codes "keep-going"))) (flag_rule (codes "trace"))
 
 abbrev pub certify_app : App
 certify_app =
     let threads = with_rule (file_app (codes "certify")) (text_rule (codes "threads")) in
     let order = with_rule threads (wanted_rule (codes "order-file")) in
     with_rule (with_rule order (wanted_rule (codes "report"))) (text_rule (codes "ticks"))
+
+abbrev pub test_app : App
+test_app =
+    let files = with_rule (new_app (codes "test")) files_rule in
+    with_rule (with_rule files (text_rule (codes "format"))) (flag_rule (codes "list"))
 
 abbrev pub explain_app : App
 explain_app = with_rule (with_rule (new_app (codes "explain")) fault_rule) trap_rule
@@ -108,5 +123,6 @@ program_app =
     let lists = with_subcommand (with_subcommand commandless_app check_app.top) listing_app.top in
     let runs = with_subcommand (with_subcommand lists run_app.top) replay_app.top in
     let of_source = with_subcommand (with_subcommand runs source_app.top) trace_app.top in
-    let compares = with_subcommand (with_subcommand of_source outcomes_app.top) certify_app.top in
-    with_subcommand compares explain_app.top
+    let explores = with_subcommand (with_subcommand of_source explore_app.top) outcomes_app.top in
+    let compares = with_subcommand explores certify_app.top in
+    with_subcommand (with_subcommand compares test_app.top) explain_app.top

@@ -8,7 +8,7 @@ ghost use Rattle.command.specs.declared.request.Comparison.{Comparison};
 ghost use Rattle.command.specs.inner.Refusals.{IsOwn};
 
 use crate::claim::file_given;
-use crate::given::{text_given, wrong};
+use crate::given::{number_given, text_given, wrong};
 use crate::range::threads_explored;
 use crate::request::{Against, Comparison, ThreadRange, UsageFault};
 use crate::task::number;
@@ -16,7 +16,7 @@ use clap::ArgMatches;
 use std::alloc::Global;
 
 /// Whether a text is given for an argument.
-fn has_text(given: &ArgMatches<'_>, id: &str) -> bool
+pub(crate) fn has_text(given: &ArgMatches<'_>, id: &str) -> bool
     ensures yes { result ≡ true → first_of id.now (rows_of (found_of given.now)) ≡ None → ⊥ }
     ensures no { result ≡ false → first_of id.now (rows_of (found_of given.now)) ≡ None }
 {
@@ -32,7 +32,8 @@ pub(crate) fn compares(name: &str, given: &ArgMatches<'_>) -> bool
     name == "outcomes" && (has_text(given, "refines") || has_text(given, "expect"))
 }
 
-/// The file that is given for one of two arguments, where none is for the other and the source isn't standard input too.
+/// The file given for one of two arguments. It is refused if the other is given too, or if the source is standard input
+/// as well.
 fn given_alone(
     alloc: Global,
     given: &ArgMatches<'_>,
@@ -88,15 +89,17 @@ pub(crate) fn comparison(alloc: Global, given: &ArgMatches<'_>) -> Result<Compar
     let steps = number(alloc, given, "steps", 1000000, 0, u32::MAX)?;
     let limit = number(alloc, given, "limit", 1000000, 0, u32::MAX)?;
     let memory = number(alloc, given, "memory", 1024, 0, u32::MAX)?;
+    let time = number_given(alloc, given, "time", 0, u32::MAX)?;
     let against = against(alloc, given)?;
     if !are_comparable(threads, &against) {
-        return Err(wrong(alloc, "--expect wants one number of threads"));
+        return Err(wrong(alloc, "--expect needs one number of threads"));
     }
     Ok(Comparison {
         threads,
         steps,
         limit,
         memory,
+        time,
         against,
     })
 }

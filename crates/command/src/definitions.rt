@@ -1,4 +1,4 @@
-//! Numbers that stand in place of names of sources.
+//! Numbers that replace names in sources.
 
 ghost use Rattle.std.specs.Prelude.{◌≡◌, ◌++◌, ◌∷◌, [], OnOk, List, IfOk, IfErr, MatchOption, false, map};
 ghost use Rattle.std.specs.Prelude.{string_bytes, true};
@@ -18,7 +18,7 @@ use std::alloc::{AllocError, Global};
 fn default_threads(name: &str) -> u32
     ensures { result ≡ default_threads name.now }
 {
-    if name == "outcomes" || name == "trace" {
+    if name == "outcomes" || name == "trace" || name == "explore" {
         2
     } else {
         1
@@ -36,11 +36,11 @@ fn thread_count(name: &str, given: &ArgMatches<'_>) -> Option<u32>
     }
 }
 
-/// Says that a word wants one number of threads.
+/// Reports that a definition needs a single number of threads.
 fn no_single_number(alloc: Global, word: &str) -> UsageFault
     ensures { IsOwn (Unit {0}) result }
 {
-    match format!(in alloc; "-D {word} wants one number of threads") {
+    match format!(in alloc; "-D {word} needs one number of threads") {
         Ok(why) => wrong(alloc, why.as_str()),
         Err(_) => UsageFault::OutOfMemory,
     }
@@ -97,7 +97,7 @@ fn read(alloc: Global, words: &[&str], threads: Option<u32>) -> Result<Vec<Defin
     Ok(definitions)
 }
 
-/// What the words that are given define.
+/// The definitions given on the command line.
 fn read_given(
     alloc: Global,
     given: &ArgMatches<'_>,
@@ -139,7 +139,7 @@ fn twice(definitions: &[Definition]) -> Option<&str>
     None
 }
 
-/// What is defined.
+/// The definitions of a command line, with distinct names.
 pub(crate) fn definitions(
     alloc: Global,
     name: &str,

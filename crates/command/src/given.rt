@@ -101,8 +101,20 @@ pub(crate) fn out_of_range(alloc: Global, id: &str, least: u32, most: u32) -> Us
     }
 }
 
-/// The number that is given for an argument, if one is given. Where it is none, it is said which numbers the argument
-/// takes.
+/// Reports which numbers an argument accepts. If a range is given, reports that the command takes one number.
+fn no_number(alloc: Global, given: &ArgMatches<'_>, id: &str, least: u32, most: u32) -> UsageFault
+    ensures { IsOwn (Unit {0}) result }
+{
+    if !text_given(given, id).unwrap_or("").contains("..") {
+        return out_of_range(alloc, id, least, most);
+    }
+    match format!(in alloc; "--{id}: this command takes one number, {least} to {most}") {
+        Ok(why) => wrong(alloc, why.as_str()),
+        Err(_) => UsageFault::OutOfMemory,
+    }
+}
+
+/// The number given for an argument, if any. Any other text is refused.
 pub(crate) fn number_given(
     alloc: Global,
     given: &ArgMatches<'_>,
@@ -115,6 +127,6 @@ pub(crate) fn number_given(
 {
     match read_number(given, id) {
         Ok(number) => Ok(number),
-        Err(NoNumber) => Err(out_of_range(alloc, id, least, most)),
+        Err(NoNumber) => Err(no_number(alloc, given, id, least, most)),
     }
 }

@@ -3,6 +3,7 @@
 
 mod claim;
 mod comparison;
+mod coverage;
 mod definitions;
 mod given;
 mod line;
@@ -13,10 +14,11 @@ mod range;
 mod read;
 mod request;
 mod task;
+mod tests;
 
 pub use listed::listed_order;
-pub use read::command;
+pub use read::{command, job};
 pub use request::{
-    Against, Asked, CheckOptions, Claim, Comparison, Format, Questions, Request, Steps, Task,
-    ThreadRange, UsageFault,
+    Against, Asked, CheckOptions, Claim, Comparison, Coverage, Format, Job, Questions, Request,
+    Steps, Task, TestFormat, Tests, ThreadRange, UsageFault,
 };

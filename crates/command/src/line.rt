@@ -6,7 +6,7 @@ ghost use Rattle.command.specs.inner.Made.{IsMade};
 ghost use Rattle.command.specs.Line.{file_rule, flag_rule, fault_rule, text_rule, wanted_rule, order_rule, file_app};
 ghost use Rattle.command.specs.Line.{check_app, listing_app, run_app, replay_steps_app, replay_app, source_app};
 ghost use Rattle.command.specs.Line.{outcome_states_app, outcomes_app, certify_app, explain_app, commandless_app};
-ghost use Rattle.command.specs.Line.{define_rule, program_app, trace_app, trap_rule};
+ghost use Rattle.command.specs.Line.{define_rule, files_rule, explore_app, program_app, test_app, trace_app, trap_rule};
 
 use clap::{Arg, ArgAction, Command};
 use std::alloc::{AllocError, Global};
@@ -124,7 +124,7 @@ fn format<'a>(alloc: Global) -> Arg<'a>
         alloc,
         "format",
         "HOW",
-        "Report each fault on one line: short is FILE:LINE:COL: error: WORDS [NN], for editors; json is an object",
+        "Report each fault on one line: short is FILE:LINE:COL: error: WORDS [NN], for editors; json is an object; github is an annotation",
     )
 }
 
@@ -215,7 +215,7 @@ fn threads_explored<'a>(alloc: Global) -> Arg<'a>
         alloc,
         "threads",
         "T",
-        "Number of threads, or a range of numbers as 2..4, 1 to 64 [default: 2]",
+        "Number of threads, or a range such as 2..4, 1 to 64 [default: 2]; any: every number, with --always",
     )
 }
 
@@ -378,7 +378,34 @@ fn trace<'a>(alloc: Global) -> Result<Command<'a>, AllocError>
         "NAME",
         "Function `int NAME(void)` of FILE to evaluate after the last turn",
     );
-    with(command, property)
+    let command = with(command, property);
+    let full = flag(
+        alloc,
+        "full",
+        "Show a block of lines for each turn, not a line of a table [default if the table is wide]",
+    );
+    with(command, full)
+}
+
+/// The command that writes a page on which every order can be played.
+fn explore<'a>(alloc: Global) -> Result<Command<'a>, AllocError>
+    ensures { IfOk result (IsMade explore_app) }
+{
+    let command = of_file(
+        alloc,
+        "explore",
+        "Write an HTML page on which every order of transactions can be played, turn by turn",
+        "Example:\n  txc explore seats.c --threads 2 > seats.html",
+    );
+    let command = with(command, threads_traced(alloc));
+    let command = with(command, order(alloc));
+    let always = text(
+        alloc,
+        "always",
+        "NAMES",
+        "Functions `int NAME(void)` of FILE whose values the page shows in every state; names are joined by commas",
+    );
+    with(command, always)
 }
 
 /// The command that lists all outcomes, with its limits and the options that compare outcomes.
@@ -413,6 +440,13 @@ fn outcome_states<'a>(alloc: Global) -> Result<Command<'a>, AllocError>
         "Limit on the memory for states and list, in MB, 0 to 4294967295 [default: 1024]",
     );
     let command = with(command, memory);
+    let time = text(
+        alloc,
+        "time",
+        "SECONDS",
+        "Limit on the seconds of the search, 0 to 4294967295; the list may take as many more [default: no limit]",
+    );
+    let command = with(command, time);
     let refines = text(
         alloc,
         "refines",
@@ -453,7 +487,13 @@ fn outcomes<'a>(alloc: Global) -> Result<Command<'a>, AllocError>
         "keep-going",
         "Continue the search after each function has failed, and list all deadlocks",
     );
-    with(command, keep_going)
+    let command = with(command, keep_going);
+    let trace = flag(
+        alloc,
+        "trace",
+        "Show how the first failure, deadlock and trap come about, as `txc trace` does, on standard error [default on a terminal]",
+    );
+    with(command, trace)
 }
 
 /// The command that certifies a report.
@@ -483,6 +523,43 @@ fn certify<'a>(alloc: Global) -> Result<Command<'a>, AllocError>
         "Limit on the ticks of each thread (statements, loop iterations, calls), 0 to 4294967295 [default: no limit]",
     );
     with(command, ticks)
+}
+
+/// The files to test.
+fn files<'a>(alloc: Global) -> Arg<'a>
+    ensures rule { rule_of result ≡ files_rule }
+    ensures global { result.global ≡ false }
+{
+    Arg::new(alloc, "FILE")
+        .required(true)
+        .action(ArgAction::Append)
+        .help("C programs whose lines `// txc: OPTIONS` are tested")
+}
+
+/// The command that tests files.
+fn test<'a>(alloc: Global) -> Result<Command<'a>, AllocError>
+    ensures { IfOk result (IsMade test_app) }
+{
+    let command = command_of(
+        alloc,
+        "test",
+        "Test programs: run txc outcomes with the options of each line `// txc: OPTIONS` in them",
+        "Example:\n  txc test lock.c queue.c",
+    );
+    let command = with(Ok(command), files(alloc));
+    let format = text(
+        alloc,
+        "format",
+        "HOW",
+        "Report each question in this form: github is an annotation if it does not pass; json is an object",
+    );
+    let command = with(command, format);
+    let list = flag(
+        alloc,
+        "list",
+        "Print a command for each question, which succeeds if the question passes, and run none",
+    );
+    with(command, list)
 }
 
 /// The number of a fault, or the word of a thread's end.
@@ -580,7 +657,9 @@ pub fn program<'a>(alloc: Global) -> Result<Command<'a>, AllocError>
     let program = with_command(program, replay(alloc));
     let program = with_command(program, source(alloc));
     let program = with_command(program, trace(alloc));
+    let program = with_command(program, explore(alloc));
     let program = with_command(program, outcomes(alloc));
     let program = with_command(program, certify(alloc));
+    let program = with_command(program, test(alloc));
     with_command(program, explain(alloc))
 }

@@ -6,7 +6,7 @@ ghost use Rattle.command.specs.Asked.{AreQuestions, are_asked};
 ghost use Rattle.command.specs.declared.request.Questions.{Questions};
 ghost use Rattle.command.specs.inner.Refusals.{IsOwn};
 
-use crate::given::{flag_given, text_given, text_kept};
+use crate::given::{flag_given, number_given, text_given, text_kept};
 use crate::range::threads_explored;
 use crate::request::{Questions, UsageFault};
 use crate::task::number;
@@ -48,13 +48,16 @@ pub(crate) fn questions(alloc: Global, given: &ArgMatches<'_>) -> Result<Questio
     let steps = number(alloc, given, "steps", 1000000, 0, u32::MAX)?;
     let limit = number(alloc, given, "limit", 1000000, 0, u32::MAX)?;
     let memory = number(alloc, given, "memory", 1024, 0, u32::MAX)?;
+    let time = number_given(alloc, given, "time", 0, u32::MAX)?;
     Ok(Questions {
         threads,
         steps,
         limit,
         memory,
+        time,
         always: text_kept(alloc, given, "always")?,
         last: text_kept(alloc, given, "final")?,
         keeps_going: flag_given(given, "keep-going"),
+        traces: flag_given(given, "trace"),
     })
 }

@@ -51,7 +51,7 @@ fn range(alloc: Global, text: &str) -> Result<Option<ThreadRange>, AllocError>
 fn bad_range(alloc: Global) -> UsageFault
     ensures { IsOwn (Unit {0}) result }
 {
-    wrong(alloc, "--threads is 1 to 64, or a range of these, as 2..4")
+    wrong(alloc, "--threads is 1 to 64, or a range such as 2..4")
 }
 
 /// The range itself, if each of its numbers is a possible number of threads, and the smaller one is first.
@@ -62,7 +62,10 @@ fn checked(alloc: Global, range: ThreadRange) -> Result<ThreadRange, UsageFault>
     if range.first == 0 || MOST_THREADS < range.first || MOST_THREADS < range.last {
         Err(bad_range(alloc))
     } else if range.last < range.first {
-        Err(wrong(alloc, "--threads wants the smaller number first, as 2..4"))
+        Err(wrong(
+            alloc,
+            "--threads needs the smaller number first, as in 2..4",
+        ))
     } else {
         Ok(range)
     }

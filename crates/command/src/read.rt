@@ -1,20 +1,24 @@
 //! From words to a request.
 
-ghost use Rattle.std.specs.Prelude.{◌≡◌, IfOk, IfErr, IsSomeAnd, codes, map};
+ghost use Rattle.std.specs.Prelude.{◌≡◌, IfOk, IfErr, IsSomeAnd, codes, false, map, true};
 ghost use Rattle.clap.specs.Words.{first_of, found_of, one_of, rows_of, subcommand_rows_of};
 ghost use Rattle.command.specs.declared.request.Format.{Format};
 ghost use Rattle.command.specs.declared.request.Asked.{Asked};
 ghost use Rattle.command.specs.Asked.{Requests, IsCommanded, IsFormat, IsGiven, IsNoNumber, IsRequest, Refuses};
-ghost use Rattle.command.specs.inner.Refusals.{AreNoRequest, AskNoMore, IsOwn, HasGiven, SaysError};
+ghost use Rattle.command.specs.Tests.{IsJob, RefusesJob, WantJob};
+ghost use Rattle.command.specs.declared.request.Job.{Job};
+ghost use Rattle.command.specs.inner.Refusals.{AreNoRequest, AskNoMore, IsOwn, HasGiven, HasJob, SaysError};
 
 use crate::claim::claim;
 use crate::comparison::{compares, comparison};
+use crate::coverage::{coverage, covers};
 use crate::definitions::definitions;
 use crate::given::{NoNumber, flag_given, read_number, text_given, text_wanted, wrong};
 use crate::line::program;
 use crate::questions::{asks, questions};
-use crate::request::{Asked, Format, Request, UsageFault};
+use crate::request::{Asked, Format, Job, Request, UsageFault};
 use crate::task::task;
+use crate::tests::tests;
 use clap::error::ErrorKind;
 use clap::{ArgMatches, Error};
 use std::alloc::Global;
@@ -34,6 +38,50 @@ pub fn command(alloc: Global, words: &[&str]) -> Result<Asked, UsageFault>
     }
 }
 
+/// Reads the words of a command line. Unlike `command`, it accepts `txc test` too.
+pub fn job(alloc: Global, words: &[&str]) -> Result<Job, UsageFault>
+    ensures ok { IfOk result (WantJob (map (λ w. w.now) words.now)) }
+    ensures err { IfErr result (RefusesJob (map (λ w. w.now) words.now)) }
+{
+    let program = program(alloc)?;
+    match program.try_get_matches_from(words) {
+        Ok(matches) => job_asked(alloc, &matches),
+        Err(error) => Err(refusal(alloc, &error)),
+    }
+}
+
+/// The job that an accepted command line requests.
+fn job_asked(alloc: Global, matches: &ArgMatches<'_>) -> Result<Job, UsageFault>
+    ensures ok { IfOk result (HasJob (subcommand_rows_of matches.now)) }
+    ensures err { IfErr result (IsOwn ((j : Job) → HasJob (subcommand_rows_of matches.now) j → ⊥)) }
+{
+    match matches.subcommand() {
+        Some((name, given)) => job_of(alloc, name, given),
+        None => Err(wrong(alloc, "a command is wanted")),
+    }
+}
+
+/// Whether this is the command that tests files.
+fn is_test(name: &str) -> bool
+    ensures yes { result ≡ true → name.now ≡ codes "test" }
+    ensures no { result ≡ false → name.now ≡ codes "test" → ⊥ }
+{
+    name == "test"
+}
+
+/// The job of a command with these arguments.
+fn job_of(alloc: Global, name: &str, given: &ArgMatches<'_>) -> Result<Job, UsageFault>
+    ensures ok { IfOk result (IsJob name.now (rows_of (found_of given.now))) }
+    ensures err { IfErr result (IsOwn ((j : Job) → IsJob name.now (rows_of (found_of given.now)) j → ⊥)) }
+{
+    if is_test(name) {
+        let wanted = tests(alloc, given)?;
+        return Ok(Job::Test(wanted));
+    }
+    let asked = asked_of(alloc, name, given)?;
+    Ok(Job::Serve(asked))
+}
+
 /// What is told of words that the command line has not got, or that ask for help.
 fn refusal(alloc: Global, error: &Error) -> UsageFault
     ensures { SaysError error.now result }
@@ -48,7 +96,7 @@ fn refusal(alloc: Global, error: &Error) -> UsageFault
     }
 }
 
-/// What words ask that the command line has.
+/// The request and the definitions of an accepted command line.
 fn asked(alloc: Global, matches: &ArgMatches<'_>) -> Result<Asked, UsageFault>
     ensures ok { IfOk result (HasGiven (subcommand_rows_of matches.now)) }
     ensures err { IfErr result (IsOwn ((a : Asked) → HasGiven (subcommand_rows_of matches.now) a → ⊥)) }
@@ -69,7 +117,8 @@ fn format_given(alloc: Global, given: &ArgMatches<'_>) -> Result<Format, UsageFa
         None => Ok(Format::Plain),
         Some("short") => Ok(Format::Short),
         Some("json") => Ok(Format::Json),
-        Some(_) => Err(wrong(alloc, "--format is short or json")),
+        Some("github") => Ok(Format::Github),
+        Some(_) => Err(wrong(alloc, "--format is short, json or github")),
     }
 }
 
@@ -143,6 +192,14 @@ fn request_of(alloc: Global, name: &str, given: &ArgMatches<'_>) -> Result<Reque
             verbose,
             format,
             claim: claim(alloc, given)?,
+        });
+    }
+    if covers(name, given) {
+        return Ok(Request::Cover {
+            file,
+            verbose,
+            format,
+            coverage: coverage(alloc, given)?,
         });
     }
     if compares(name, given) {

@@ -6,11 +6,40 @@ use parameters::Definition;
 use std::alloc::AllocError;
 use thiserror::Error;
 
-/// What words ask: a request, and the numbers that stand in place of names of its sources.
+/// A request, and the numbers that replace names in its sources.
 #[derive(Debug, Drop)]
 pub struct Asked {
     pub request: Request,
     pub definitions: Vec<Definition>,
+}
+
+/// A job that a command line requests.
+#[derive(Debug, Drop)]
+pub enum Job {
+    /// Serves a request.
+    Serve(Asked),
+    /// Tests files.
+    Test(Tests),
+}
+
+/// Files whose questions `txc outcomes` answers.
+#[derive(Debug, Drop)]
+pub struct Tests {
+    pub files: Vec<String>,
+    pub format: TestFormat,
+    /// Whether the commands are listed instead of served.
+    pub lists: bool,
+}
+
+/// How the answer to a question is reported.
+#[derive(Clone, Copy, PartialEq, Eq, Debug)]
+pub enum TestFormat {
+    /// As a line with the position of the question.
+    Plain,
+    /// As a GitHub annotation, unless the answer is the expected one.
+    Github,
+    /// As a JSON object.
+    Json,
 }
 
 /// A request.
@@ -47,6 +76,14 @@ pub enum Request {
         verbose: bool,
         format: Format,
         questions: Questions,
+    },
+    /// Checks whether functions of the program in a file hold for every number of threads.
+    Cover {
+        file: String,
+        /// Whether more of a fault is reported than its line.
+        verbose: bool,
+        format: Format,
+        coverage: Coverage,
     },
     /// Explains the fault of a number.
     Explain {
@@ -87,6 +124,8 @@ pub struct Comparison {
     pub limit: u32,
     /// How many MB states and list take at most.
     pub memory: u32,
+    /// How many seconds the search takes at most.
+    pub time: Option<u32>,
     pub against: Against,
 }
 
@@ -108,12 +147,29 @@ pub struct Questions {
     pub limit: u32,
     /// How many MB states and list take at most.
     pub memory: u32,
+    /// How many seconds the search takes at most.
+    pub time: Option<u32>,
     /// Functions that must hold in every state: their names, joined by commas.
     pub always: Option<String>,
     /// Functions that must hold in every outcome.
     pub last: Option<String>,
     /// Whether the search continues once each function has failed.
     pub keeps_going: bool,
+    /// Whether traces are reported of the first order after which a function fails, and of the first stuck order.
+    pub traces: bool,
+}
+
+/// The functions that must hold in every state that 1 to 64 threads reach, for each number of threads. The search finds
+/// at most `limit` states. A thread makes at most `steps` steps of its code in a turn, and a function takes at most as
+/// many ticks.
+#[derive(Debug, Drop)]
+pub struct Coverage {
+    pub steps: u32,
+    pub limit: u32,
+    /// How many MB states take at most.
+    pub memory: u32,
+    /// The names of the functions, joined by commas.
+    pub always: String,
 }
 
 /// How the fault of a source is reported.
@@ -125,6 +181,8 @@ pub enum Format {
     Short,
     /// As a JSON object.
     Json,
+    /// As an annotation of GitHub Actions.
+    Github,
 }
 
 /// The output in addition to a verdict on a program.
@@ -190,14 +248,27 @@ pub enum Task {
         threads: u32,
         order: Vec<u32>,
         property: Option<String>,
+        /// Whether each turn is shown in full.
+        in_full: bool,
     },
-    /// Lists the outcomes of 1 to 64 threads in all orders, over at most so many states. In a turn a thread makes at
-    /// most so many steps of its code, and states and list take about so many MB of memory.
+    /// Writes a page on which all orders of 1 to 64 threads can be played. It opens at `order`, and shows the values of
+    /// the functions in `always`, whose names are joined by commas.
+    Explore {
+        threads: u32,
+        order: Vec<u32>,
+        always: Option<String>,
+    },
+    /// Lists the outcomes of 1 to 64 threads in all orders, over at most `limit` states. A thread makes at most `steps`
+    /// steps of its code in a turn. The states and the list take about `memory` MB. If `time` is given, the search
+    /// takes at most about that many seconds.
     Outcomes {
         threads: ThreadRange,
         steps: u32,
         limit: u32,
         memory: u32,
+        time: Option<u32>,
+        /// Whether traces are reported of the first stuck order, and of the first order in which a thread traps.
+        traces: bool,
     },
 }
 

@@ -3,7 +3,8 @@
 ghost use Rattle.std.specs.Prelude.{◌≡◌, ◌≤◌, ◌↔◌, ℕ, List, IfOk, IfErr, IsTrue, Some, None, codes, false, string_bytes};
 ghost use Rattle.clap.specs.Words.{first_of, found_of, rows_of};
 ghost use Rattle.command.specs.Asked.{AreCounted, AreScheduled, AreSteps, AreThreadsGiven};
-ghost use Rattle.command.specs.Asked.{AreUncompared, IsFirstDrawn, IsNotBoth, IsNumberInRange, IsOrderGiven, IsTask};
+ghost use Rattle.command.specs.Asked.{AreUncompared, IsFirstDrawn, IsNotBoth, IsNumberInRange, IsOrderGiven};
+ghost use Rattle.command.specs.Asked.{IsOrderOpened, IsTask};
 ghost use Rattle.command.specs.Asked.{are_asked};
 ghost use Rattle.command.specs.declared.request.Steps.{Steps};
 ghost use Rattle.command.specs.inner.Refusals.{AreNoTask, IsOutOfRange, IsOwn};
@@ -143,7 +144,7 @@ fn steps(alloc: Global, given: &ArgMatches<'_>) -> Result<Steps, UsageFault>
             order: order_of_steps(alloc, given)?,
         }),
         (_, _, None) => Err(wrong(alloc, "one of --schedule and --seed")),
-        (_, _, Some(_)) => Err(wrong(alloc, "--order wants no --schedule and no --seed")),
+        (_, _, Some(_)) => Err(wrong(alloc, "--order takes no --schedule and no --seed")),
     }
 }
 
@@ -181,9 +182,9 @@ fn replay(alloc: Global, given: &ArgMatches<'_>) -> Result<Task, UsageFault>
                 count,
             }),
             Steps::Order { order } => Ok(Task::PrintOrder { threads, order }),
-            Steps::Schedule { .. } => Err(wrong(alloc, "--print-schedule wants --seed or --order")),
+            Steps::Schedule { .. } => Err(wrong(alloc, "--print-schedule needs --seed or --order")),
         },
-        (_, false, _, Some(_)) => Err(wrong(alloc, "--from wants --picture")),
+        (_, false, _, Some(_)) => Err(wrong(alloc, "--from needs --picture")),
         _ => Err(wrong(alloc, "one of --picture, --print-schedule and --timeline")),
     }
 }
@@ -212,6 +213,30 @@ fn trace(alloc: Global, given: &ArgMatches<'_>) -> Result<Task, UsageFault>
         threads,
         order: order_given(alloc, given)?,
         property: text_kept(alloc, given, "property")?,
+        in_full: flag_given(given, "full"),
+    })
+}
+
+/// The order at which a page opens; it is empty if none is given.
+fn order_opened(alloc: Global, given: &ArgMatches<'_>) -> Result<Vec<u32>, UsageFault>
+    ensures ok { IfOk result (λ v. IsOrderOpened (rows_of (found_of given.now)) v.items) }
+    ensures err { IfErr result (IsOwn ((ns : List ℕ) → IsOrderOpened (rows_of (found_of given.now)) ns → ⊥)) }
+{
+    match text_given(given, "order") {
+        Some(_) => order_given(alloc, given),
+        None => Ok(Vec::new(alloc)),
+    }
+}
+
+/// A page of all orders.
+fn explore(alloc: Global, given: &ArgMatches<'_>) -> Result<Task, UsageFault>
+    ensures ok { IfOk result (IsTask (codes "explore") (rows_of (found_of given.now))) }
+    ensures err { IfErr result (IsOwn (AreNoTask (codes "explore") (rows_of (found_of given.now)))) }
+{
+    Ok(Task::Explore {
+        threads: number(alloc, given, "threads", 2, 1, MOST_THREADS)?,
+        order: order_opened(alloc, given)?,
+        always: text_kept(alloc, given, "always")?,
     })
 }
 
@@ -227,6 +252,8 @@ fn outcomes(alloc: Global, given: &ArgMatches<'_>) -> Result<Task, UsageFault>
         steps: number(alloc, given, "steps", 1000000, 0, u32::MAX)?,
         limit: number(alloc, given, "limit", 1000000, 0, u32::MAX)?,
         memory: number(alloc, given, "memory", 1024, 0, u32::MAX)?,
+        time: number_given(alloc, given, "time", 0, u32::MAX)?,
+        traces: flag_given(given, "trace"),
     })
 }
 
@@ -252,6 +279,7 @@ pub(crate) fn task(alloc: Global, name: &str, given: &ArgMatches<'_>) -> Result<
         "replay" => replay(alloc, given),
         "source" => source(alloc, given),
         "trace" => trace(alloc, given),
+        "explore" => explore(alloc, given),
         "outcomes" => outcomes(alloc, given),
         _ => Err(wrong(alloc, "no such command")),
     }

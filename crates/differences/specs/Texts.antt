@@ -1,5 +1,6 @@
 -- The first line in which a text differs from the expected one.
-use Rattle.std.specs.Prelude.{◌≡◌, ◌≢◌, ◌==◌, ◌++◌, ◌+◌, ℕ, List, Option, None, Some, codes, decimal, slice_get, take}
+use Rattle.std.specs.Prelude.{◌≡◌, ◌≢◌, ◌==◌, ◌||◌, ◌++◌, ◌+◌, ℕ, List, Option, None, Some, codes, decimal, if◌then◌else◌}
+use Rattle.std.specs.Prelude.{map, nat_lt, slice_get, take}
 use Rattle.std.specs.List.{slice_split}
 
 -- the text between the ends of lines
@@ -15,9 +16,13 @@ pub record DifferFirstAt (due found : List (List ℕ)) (at : ℕ) : Type 0 where
 abbrev pub IsFirstDifference : (due found : List ℕ) → ℕ → Type 0
 IsFirstDifference due found at = DifferFirstAt (text_lines due) (text_lines found) at
 
+-- a byte as it is shown: a control character as a question mark
+abbrev pub shown_byte : ℕ → ℕ
+shown_byte b = if nat_lt b 32 || b == 127 then 63 else b
+
 -- a text's line, or the statement that the text ends before it
 abbrev pub side_text : (name : List ℕ) → Option (List ℕ) → List ℕ
-side_text name (Some line) = name ++ codes ": " ++ line ++ codes "\n"
+side_text name (Some line) = name ++ codes ": " ++ map shown_byte line ++ codes "\n"
 side_text name None = name ++ codes " ends\n"
 
 -- the number of a line, counted from 1, and the line on each side, after its name

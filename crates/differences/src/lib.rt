@@ -3,7 +3,8 @@
 
 ghost use Rattle.std.specs.Prelude.{◌≡◌, ◌≢◌, ◌≤◌, ◌++◌, ℕ, false, true, IfOk, IfSome, MatchOption, OnOk, decimal, length, map, option_map};
 ghost use Rattle.std.specs.Prelude.{take};
-ghost use Rattle.differences.specs.Texts.{DifferFirstAt, IsFirstDifference, side_text, sides_text, text_lines};
+ghost use Rattle.differences.specs.Texts.{DifferFirstAt, IsFirstDifference, shown_byte, side_text, sides_text};
+ghost use Rattle.differences.specs.Texts.{text_lines};
 ghost use Rattle.differences.specs.Texts as spec;
 
 use itoa::Buffer;
@@ -103,6 +104,23 @@ fn push_bytes<A: Allocator>(text: &mut Vec<u8, A>, bytes: &[u8]) -> Result<(), A
     text.extend_from_slice(bytes)
 }
 
+/// A byte as it is shown: a control character as a question mark.
+fn shown(byte: u8) -> u8
+    ensures { result ≡ shown_byte byte }
+{
+    if byte < 32 || byte == 127 { b'?' } else { byte }
+}
+
+/// Adds bytes, with `?` for control characters.
+fn push_shown<A: Allocator>(text: &mut Vec<u8, A>, bytes: &[u8]) -> Result<(), AllocError>
+    ensures { OnOk result (text.new.items ≡ text.old.items ++ map shown_byte bytes.now) }
+{
+    'bytes: for byte in bytes {
+        text.push(shown(*byte))?;
+    }
+    Ok(())
+}
+
 /// Adds a number.
 fn push_number<A: Allocator>(text: &mut Vec<u8, A>, number: u64) -> Result<(), AllocError>
     ensures { OnOk result (text.new.items ≡ text.old.items ++ decimal number) }
@@ -124,6 +142,6 @@ fn push_side<A: Allocator>(
         return push_bytes(text, b" ends\n");
     };
     push_bytes(text, b": ")?;
-    push_bytes(text, *line)?;
+    push_shown(text, *line)?;
     push_bytes(text, b"\n")
 }

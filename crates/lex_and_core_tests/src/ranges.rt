@@ -9,33 +9,33 @@ fn ranges() -> &'static [Row] {
     static ROWS: [Row; 7] = [
         (
             "txc|outcomes|a.c|--threads|2..4",
-            br#"Ok(Program { file: "a.c", verbose: false, format: Plain, task: Outcomes { threads: ThreadRange { first: 2, last: 4 }, steps: 1000000, limit: 1000000, memory: 1024 } })"#,
+            br#"Ok(Program { file: "a.c", verbose: false, format: Plain, task: Outcomes { threads: ThreadRange { first: 2, last: 4 }, steps: 1000000, limit: 1000000, memory: 1024, time: None, traces: false } })"#,
         ),
         (
             "txc|outcomes|a.c|--threads=1..64|--always=p",
-            br#"Ok(Ask { file: "a.c", verbose: false, format: Plain, questions: Questions { threads: ThreadRange { first: 1, last: 64 }, steps: 1000000, limit: 1000000, memory: 1024, always: Some("p"), last: None, keeps_going: false } })"#,
+            br#"Ok(Ask { file: "a.c", verbose: false, format: Plain, questions: Questions { threads: ThreadRange { first: 1, last: 64 }, steps: 1000000, limit: 1000000, memory: 1024, time: None, always: Some("p"), last: None, keeps_going: false, traces: false } })"#,
         ),
         (
             "txc|outcomes|a.c|--threads=03..3|--refines=b.c",
-            br#"Ok(Compare { file: "a.c", verbose: false, format: Plain, comparison: Comparison { threads: ThreadRange { first: 3, last: 3 }, steps: 1000000, limit: 1000000, memory: 1024, against: Refined { file: "b.c" } } })"#,
+            br#"Ok(Compare { file: "a.c", verbose: false, format: Plain, comparison: Comparison { threads: ThreadRange { first: 3, last: 3 }, steps: 1000000, limit: 1000000, memory: 1024, time: None, against: Refined { file: "b.c" } } })"#,
         ),
         // a number alone may have a plus, as for other options
         (
             "txc|outcomes|a.c|--threads=+3|--expect=l",
-            br#"Ok(Compare { file: "a.c", verbose: false, format: Plain, comparison: Comparison { threads: ThreadRange { first: 3, last: 3 }, steps: 1000000, limit: 1000000, memory: 1024, against: Expected { file: "l" } } })"#,
+            br#"Ok(Compare { file: "a.c", verbose: false, format: Plain, comparison: Comparison { threads: ThreadRange { first: 3, last: 3 }, steps: 1000000, limit: 1000000, memory: 1024, time: None, against: Expected { file: "l" } } })"#,
         ),
         // a list is of one number of threads
         (
             "txc|outcomes|a.c|--threads=3..3|--expect=l",
-            br#"Ok(Compare { file: "a.c", verbose: false, format: Plain, comparison: Comparison { threads: ThreadRange { first: 3, last: 3 }, steps: 1000000, limit: 1000000, memory: 1024, against: Expected { file: "l" } } })"#,
+            br#"Ok(Compare { file: "a.c", verbose: false, format: Plain, comparison: Comparison { threads: ThreadRange { first: 3, last: 3 }, steps: 1000000, limit: 1000000, memory: 1024, time: None, against: Expected { file: "l" } } })"#,
         ),
         (
             "txc|outcomes|a.c|--threads=2..3|--expect=l",
-            br#"Err(Wrong { text: "txc: usage: --expect wants one number of threads\n" })"#,
+            br#"Err(Wrong { text: "txc: usage: --expect needs one number of threads\n" })"#,
         ),
         (
             "txc|outcomes|a.c|--threads=4..2",
-            br#"Err(Wrong { text: "txc: usage: --threads wants the smaller number first, as 2..4\n" })"#,
+            br#"Err(Wrong { text: "txc: usage: --threads needs the smaller number first, as in 2..4\n" })"#,
         ),
     ];
     &ROWS
@@ -71,9 +71,10 @@ fn bad_ranges() -> &'static [&'static str] {
 }
 
 const NO_RANGE: &[u8] =
-    br#"Err(Wrong { text: "txc: usage: --threads is 1 to 64, or a range of these, as 2..4\n" })"#;
+    br#"Err(Wrong { text: "txc: usage: --threads is 1 to 64, or a range such as 2..4\n" })"#;
 
-const NO_NUMBER: &[u8] = br#"Err(Wrong { text: "txc: usage: --threads is 1 to 64\n" })"#;
+const NO_NUMBER: &[u8] =
+    br#"Err(Wrong { text: "txc: usage: --threads: this command takes one number, 1 to 64\n" })"#;
 
 /// Whether a command with this number of threads is refused with these words.
 fn refuses(alloc: Global, command: &str, threads: &str, wanted: &[u8]) -> bool {
@@ -95,10 +96,11 @@ fn taken_range(alloc: Global) -> Option<&'static str> {
 
 /// The first command that takes a range, though it is of one number of threads.
 fn takes_ranges(alloc: Global) -> Option<&'static str> {
-    static COMMANDS: [&str; 4] = [
+    static COMMANDS: [&str; 5] = [
         "run",
         "replay|--seed=1",
         "source|--order=0",
+        "trace|--order=0",
         "certify|--order-file=s|--report=r",
     ];
     for command in COMMANDS.as_slice() {

@@ -126,14 +126,30 @@ fn reads_words(rt: HostRuntime) {
 }
 
 fn orders() -> &'static [Row] {
-    static ROWS: [Row; 8] = [
+    static ROWS: [Row; 12] = [
+        (
+            "txc|explore|a.c",
+            br#"Ok(Program { file: "a.c", verbose: false, format: Plain, task: Explore { threads: 2, order: [], always: None } })"#,
+        ),
+        (
+            "txc|explore|--threads|3|a.c|--order|0,2|--always|p,q",
+            br#"Ok(Program { file: "a.c", verbose: false, format: Plain, task: Explore { threads: 3, order: [0, 2], always: Some("p,q") } })"#,
+        ),
+        (
+            "txc|explore|a.c|--order|0,",
+            br#"Err(Wrong { text: "txc: usage: bad --order\n" })"#,
+        ),
         (
             "txc|trace|--order|0,1|a.c",
-            br#"Ok(Program { file: "a.c", verbose: false, format: Plain, task: Trace { threads: 2, order: [0, 1], property: None } })"#,
+            br#"Ok(Program { file: "a.c", verbose: false, format: Plain, task: Trace { threads: 2, order: [0, 1], property: None, in_full: false } })"#,
         ),
         (
             "txc|trace|a.c|--threads=3|--order=|--property|p|--verbose",
-            br#"Ok(Program { file: "a.c", verbose: true, format: Plain, task: Trace { threads: 3, order: [], property: Some("p") } })"#,
+            br#"Ok(Program { file: "a.c", verbose: true, format: Plain, task: Trace { threads: 3, order: [], property: Some("p"), in_full: false } })"#,
+        ),
+        (
+            "txc|trace|--full|a.c|--order=1",
+            br#"Ok(Program { file: "a.c", verbose: false, format: Plain, task: Trace { threads: 2, order: [1], property: None, in_full: true } })"#,
         ),
         (
             "txc|source|--order||--threads|2|a.c",
@@ -170,18 +186,22 @@ fn reads_orders(rt: HostRuntime) {
 }
 
 fn outcomes() -> &'static [Row] {
-    static ROWS: [Row; 10] = [
+    static ROWS: [Row; 14] = [
         (
             "txc|outcomes|a.c",
-            br#"Ok(Program { file: "a.c", verbose: false, format: Plain, task: Outcomes { threads: ThreadRange { first: 2, last: 2 }, steps: 1000000, limit: 1000000, memory: 1024 } })"#,
+            br#"Ok(Program { file: "a.c", verbose: false, format: Plain, task: Outcomes { threads: ThreadRange { first: 2, last: 2 }, steps: 1000000, limit: 1000000, memory: 1024, time: None, traces: false } })"#,
         ),
         (
             "txc|outcomes|--threads=64|--steps=4294967295|--limit=4294967295|a.c|--verbose",
-            br#"Ok(Program { file: "a.c", verbose: true, format: Plain, task: Outcomes { threads: ThreadRange { first: 64, last: 64 }, steps: 4294967295, limit: 4294967295, memory: 1024 } })"#,
+            br#"Ok(Program { file: "a.c", verbose: true, format: Plain, task: Outcomes { threads: ThreadRange { first: 64, last: 64 }, steps: 4294967295, limit: 4294967295, memory: 1024, time: None, traces: false } })"#,
         ),
         (
             "txc|outcomes|a.c|--limit|0|--steps|0|--threads|2",
-            br#"Ok(Program { file: "a.c", verbose: false, format: Plain, task: Outcomes { threads: ThreadRange { first: 2, last: 2 }, steps: 0, limit: 0, memory: 1024 } })"#,
+            br#"Ok(Program { file: "a.c", verbose: false, format: Plain, task: Outcomes { threads: ThreadRange { first: 2, last: 2 }, steps: 0, limit: 0, memory: 1024, time: None, traces: false } })"#,
+        ),
+        (
+            "txc|outcomes|--trace|a.c|--format=json",
+            br#"Ok(Program { file: "a.c", verbose: false, format: Json, task: Outcomes { threads: ThreadRange { first: 2, last: 2 }, steps: 1000000, limit: 1000000, memory: 1024, time: None, traces: true } })"#,
         ),
         (
             "txc|outcomes|--threads=0|a.c",
@@ -206,11 +226,23 @@ fn outcomes() -> &'static [Row] {
         ),
         (
             "txc|outcomes|--memory|0|a.c",
-            br#"Ok(Program { file: "a.c", verbose: false, format: Plain, task: Outcomes { threads: ThreadRange { first: 2, last: 2 }, steps: 1000000, limit: 1000000, memory: 0 } })"#,
+            br#"Ok(Program { file: "a.c", verbose: false, format: Plain, task: Outcomes { threads: ThreadRange { first: 2, last: 2 }, steps: 1000000, limit: 1000000, memory: 0, time: None, traces: false } })"#,
+        ),
+        (
+            "txc|outcomes|--time=4294967295|a.c",
+            br#"Ok(Program { file: "a.c", verbose: false, format: Plain, task: Outcomes { threads: ThreadRange { first: 2, last: 2 }, steps: 1000000, limit: 1000000, memory: 1024, time: Some(4294967295), traces: false } })"#,
+        ),
+        (
+            "txc|outcomes|--time|0|--always|p|a.c",
+            br#"Ok(Ask { file: "a.c", verbose: false, format: Plain, questions: Questions { threads: ThreadRange { first: 2, last: 2 }, steps: 1000000, limit: 1000000, memory: 1024, time: Some(0), always: Some("p"), last: None, keeps_going: false, traces: false } })"#,
+        ),
+        (
+            "txc|outcomes|--time=1s|a.c",
+            br#"Err(Wrong { text: "txc: usage: --time is 0 to 4294967295\n" })"#,
         ),
         (
             "txc|outcomes|--limit=4294967295|--steps=7|a.c",
-            br#"Ok(Program { file: "a.c", verbose: false, format: Plain, task: Outcomes { threads: ThreadRange { first: 2, last: 2 }, steps: 7, limit: 4294967295, memory: 1024 } })"#,
+            br#"Ok(Program { file: "a.c", verbose: false, format: Plain, task: Outcomes { threads: ThreadRange { first: 2, last: 2 }, steps: 7, limit: 4294967295, memory: 1024, time: None, traces: false } })"#,
         ),
     ];
     &ROWS
@@ -326,7 +358,7 @@ fn refused_values() -> &'static [Row] {
         ),
         (
             "txc|check|a.c|--format=long",
-            br#"Err(Wrong { text: "txc: usage: --format is short or json\n" })"#,
+            br#"Err(Wrong { text: "txc: usage: --format is short, json or github\n" })"#,
         ),
     ];
     &ROWS
@@ -401,15 +433,15 @@ fn pictures() -> &'static [Row] {
         // nothing is drawn
         (
             "txc|replay|--from=401|--order=0|a.c",
-            br#"Err(Wrong { text: "txc: usage: --from wants --picture\n" })"#,
+            br#"Err(Wrong { text: "txc: usage: --from needs --picture\n" })"#,
         ),
         (
             "txc|replay|--from=0|--timeline|--order=0|a.c",
-            br#"Err(Wrong { text: "txc: usage: --from wants --picture\n" })"#,
+            br#"Err(Wrong { text: "txc: usage: --from needs --picture\n" })"#,
         ),
         (
             "txc|replay|--from=1|--print-schedule|--order=0|a.c",
-            br#"Err(Wrong { text: "txc: usage: --from wants --picture\n" })"#,
+            br#"Err(Wrong { text: "txc: usage: --from needs --picture\n" })"#,
         ),
         (
             "txc|replay|--from=1|--picture|--timeline|--order=0|a.c",
@@ -481,7 +513,7 @@ fn refused_replays() -> &'static [Row] {
         ),
         (
             "txc|replay|a.c|--print-schedule|--schedule=s",
-            br#"Err(Wrong { text: "txc: usage: --print-schedule wants --seed or --order\n" })"#,
+            br#"Err(Wrong { text: "txc: usage: --print-schedule needs --seed or --order\n" })"#,
         ),
         (
             "txc|replay|a.c|--steps=5",
@@ -576,15 +608,15 @@ fn refused_replayed_orders() -> &'static [Row] {
     static ROWS: [Row; 10] = [
         (
             "txc|replay|a.c|--order=0|--seed=1",
-            br#"Err(Wrong { text: "txc: usage: --order wants no --schedule and no --seed\n" })"#,
+            br#"Err(Wrong { text: "txc: usage: --order takes no --schedule and no --seed\n" })"#,
         ),
         (
             "txc|replay|a.c|--order=|--schedule=s",
-            br#"Err(Wrong { text: "txc: usage: --order wants no --schedule and no --seed\n" })"#,
+            br#"Err(Wrong { text: "txc: usage: --order takes no --schedule and no --seed\n" })"#,
         ),
         (
             "txc|replay|a.c|--order=0|--schedule=s|--seed=1|--picture",
-            br#"Err(Wrong { text: "txc: usage: --order wants no --schedule and no --seed\n" })"#,
+            br#"Err(Wrong { text: "txc: usage: --order takes no --schedule and no --seed\n" })"#,
         ),
         (
             "txc|replay|a.c|--order=0,,1",
@@ -658,20 +690,20 @@ fn comparisons() -> &'static [Row] {
     static ROWS: [Row; 10] = [
         (
             "txc|outcomes|a.c|--refines|b.c",
-            br#"Ok(Compare { file: "a.c", verbose: false, format: Plain, comparison: Comparison { threads: ThreadRange { first: 2, last: 2 }, steps: 1000000, limit: 1000000, memory: 1024, against: Refined { file: "b.c" } } })"#,
+            br#"Ok(Compare { file: "a.c", verbose: false, format: Plain, comparison: Comparison { threads: ThreadRange { first: 2, last: 2 }, steps: 1000000, limit: 1000000, memory: 1024, time: None, against: Refined { file: "b.c" } } })"#,
         ),
         (
             "txc|outcomes|--expect=l|--threads=64|--steps=0|--limit=4294967295|a.c|--verbose|--format=short",
-            br#"Ok(Compare { file: "a.c", verbose: true, format: Short, comparison: Comparison { threads: ThreadRange { first: 64, last: 64 }, steps: 0, limit: 4294967295, memory: 1024, against: Expected { file: "l" } } })"#,
+            br#"Ok(Compare { file: "a.c", verbose: true, format: Short, comparison: Comparison { threads: ThreadRange { first: 64, last: 64 }, steps: 0, limit: 4294967295, memory: 1024, time: None, against: Expected { file: "l" } } })"#,
         ),
         // one of the files is standard input
         (
             "txc|outcomes|-|--refines=b.c|--threads=2",
-            br#"Ok(Compare { file: "-", verbose: false, format: Plain, comparison: Comparison { threads: ThreadRange { first: 2, last: 2 }, steps: 1000000, limit: 1000000, memory: 1024, against: Refined { file: "b.c" } } })"#,
+            br#"Ok(Compare { file: "-", verbose: false, format: Plain, comparison: Comparison { threads: ThreadRange { first: 2, last: 2 }, steps: 1000000, limit: 1000000, memory: 1024, time: None, against: Refined { file: "b.c" } } })"#,
         ),
         (
             "txc|outcomes|a.c|--expect=-|--limit=7",
-            br#"Ok(Compare { file: "a.c", verbose: false, format: Plain, comparison: Comparison { threads: ThreadRange { first: 2, last: 2 }, steps: 1000000, limit: 7, memory: 1024, against: Expected { file: "-" } } })"#,
+            br#"Ok(Compare { file: "a.c", verbose: false, format: Plain, comparison: Comparison { threads: ThreadRange { first: 2, last: 2 }, steps: 1000000, limit: 7, memory: 1024, time: None, against: Expected { file: "-" } } })"#,
         ),
         // and not both
         (
@@ -709,26 +741,30 @@ fn reads_comparisons(rt: HostRuntime) {
 
 /// Functions that are asked whether they hold.
 fn questions() -> &'static [Row] {
-    static ROWS: [Row; 7] = [
+    static ROWS: [Row; 8] = [
         (
             "txc|outcomes|a.c|--always|p",
-            br#"Ok(Ask { file: "a.c", verbose: false, format: Plain, questions: Questions { threads: ThreadRange { first: 2, last: 2 }, steps: 1000000, limit: 1000000, memory: 1024, always: Some("p"), last: None, keeps_going: false } })"#,
+            br#"Ok(Ask { file: "a.c", verbose: false, format: Plain, questions: Questions { threads: ThreadRange { first: 2, last: 2 }, steps: 1000000, limit: 1000000, memory: 1024, time: None, always: Some("p"), last: None, keeps_going: false, traces: false } })"#,
         ),
         (
             "txc|outcomes|--final=p,q|--threads=3|--steps=0|--limit=7|a.c|--verbose|--format=json",
-            br#"Ok(Ask { file: "a.c", verbose: true, format: Json, questions: Questions { threads: ThreadRange { first: 3, last: 3 }, steps: 0, limit: 7, memory: 1024, always: None, last: Some("p,q"), keeps_going: false } })"#,
+            br#"Ok(Ask { file: "a.c", verbose: true, format: Json, questions: Questions { threads: ThreadRange { first: 3, last: 3 }, steps: 0, limit: 7, memory: 1024, time: None, always: None, last: Some("p,q"), keeps_going: false, traces: false } })"#,
         ),
         (
             "txc|outcomes|a.c|--keep-going|--always=p",
-            br#"Ok(Ask { file: "a.c", verbose: false, format: Plain, questions: Questions { threads: ThreadRange { first: 2, last: 2 }, steps: 1000000, limit: 1000000, memory: 1024, always: Some("p"), last: None, keeps_going: true } })"#,
+            br#"Ok(Ask { file: "a.c", verbose: false, format: Plain, questions: Questions { threads: ThreadRange { first: 2, last: 2 }, steps: 1000000, limit: 1000000, memory: 1024, time: None, always: Some("p"), last: None, keeps_going: true, traces: false } })"#,
+        ),
+        (
+            "txc|outcomes|a.c|--trace|--final=p",
+            br#"Ok(Ask { file: "a.c", verbose: false, format: Plain, questions: Questions { threads: ThreadRange { first: 2, last: 2 }, steps: 1000000, limit: 1000000, memory: 1024, time: None, always: None, last: Some("p"), keeps_going: false, traces: true } })"#,
         ),
         (
             "txc|outcomes|-|--final=|--always=p,p",
-            br#"Ok(Ask { file: "-", verbose: false, format: Plain, questions: Questions { threads: ThreadRange { first: 2, last: 2 }, steps: 1000000, limit: 1000000, memory: 1024, always: Some("p,p"), last: Some(""), keeps_going: false } })"#,
+            br#"Ok(Ask { file: "-", verbose: false, format: Plain, questions: Questions { threads: ThreadRange { first: 2, last: 2 }, steps: 1000000, limit: 1000000, memory: 1024, time: None, always: Some("p,p"), last: Some(""), keeps_going: false, traces: false } })"#,
         ),
         (
             "txc|outcomes|a.c|--limit=9",
-            br#"Ok(Program { file: "a.c", verbose: false, format: Plain, task: Outcomes { threads: ThreadRange { first: 2, last: 2 }, steps: 1000000, limit: 9, memory: 1024 } })"#,
+            br#"Ok(Program { file: "a.c", verbose: false, format: Plain, task: Outcomes { threads: ThreadRange { first: 2, last: 2 }, steps: 1000000, limit: 9, memory: 1024, time: None, traces: false } })"#,
         ),
         (
             "txc|outcomes|a.c|--always=p|--threads=65",
@@ -740,6 +776,54 @@ fn questions() -> &'static [Row] {
         ),
     ];
     &ROWS
+}
+
+/// Functions that are asked for every number of threads.
+fn coverages() -> &'static [Row] {
+    static ROWS: [Row; 9] = [
+        (
+            "txc|outcomes|a.c|--threads=any|--always=p",
+            br#"Ok(Cover { file: "a.c", verbose: false, format: Plain, coverage: Coverage { steps: 1000000, limit: 1000000, memory: 1024, always: "p" } })"#,
+        ),
+        (
+            "txc|outcomes|a.c|--threads|any|--always|p,q|--steps=7|--limit=8|--memory=9|--verbose",
+            br#"Ok(Cover { file: "a.c", verbose: true, format: Plain, coverage: Coverage { steps: 7, limit: 8, memory: 9, always: "p,q" } })"#,
+        ),
+        (
+            "txc|outcomes|a.c|--threads=any",
+            br#"Err(Wrong { text: "txc: usage: --threads any needs --always, and takes no --final, --refines or --expect\n" })"#,
+        ),
+        (
+            "txc|outcomes|a.c|--threads=any|--always=p|--final=p",
+            br#"Err(Wrong { text: "txc: usage: --threads any needs --always, and takes no --final, --refines or --expect\n" })"#,
+        ),
+        (
+            "txc|outcomes|a.c|--threads=any|--always=p|--time=5",
+            br#"Err(Wrong { text: "txc: usage: --threads any takes no --time\n" })"#,
+        ),
+        (
+            "txc|outcomes|a.c|--threads=any|--always=p|--refines=b.c",
+            br#"Err(Wrong { text: "txc: usage: --threads any needs --always, and takes no --final, --refines or --expect\n" })"#,
+        ),
+        (
+            "txc|outcomes|a.c|--threads=any|--always=p|-D|N=3",
+            br#"Ok([Definition { name: "N", number: Number { is_negative: false, magnitude: 3 } }], Cover { file: "a.c", verbose: false, format: Plain, coverage: Coverage { steps: 1000000, limit: 1000000, memory: 1024, always: "p" } })"#,
+        ),
+        (
+            "txc|outcomes|a.c|--threads=any|--always=p|-D|N=threads",
+            br#"Err(Wrong { text: "txc: usage: -D N=threads needs one number of threads\n" })"#,
+        ),
+        (
+            "txc|run|a.c|--threads=any",
+            br#"Err(Wrong { text: "txc: usage: --threads is 1 to 64\n" })"#,
+        ),
+    ];
+    &ROWS
+}
+
+#[test]
+fn reads_coverages(rt: HostRuntime) {
+    assert_none(&rt, ask_otherwise(rt.alloc(), coverages()));
 }
 
 #[test]
@@ -885,7 +969,11 @@ fn tells_its_version(rt: HostRuntime) {
 
 /// Numbers in place of names.
 fn definitions() -> &'static [Row] {
-    static ROWS: [Row; 9] = [
+    static ROWS: [Row; 10] = [
+        (
+            "txc|explore|a.c|-D|N=threads",
+            br#"Ok([Definition { name: "N", number: Number { is_negative: false, magnitude: 2 } }], Program { file: "a.c", verbose: false, format: Plain, task: Explore { threads: 2, order: [], always: None } })"#,
+        ),
         (
             "txc|listing|a.c|-D|N=3|-DM=-4",
             br#"Ok([Definition { name: "N", number: Number { is_negative: false, magnitude: 3 } }, Definition { name: "M", number: Number { is_negative: true, magnitude: 4 } }], Program { file: "a.c", verbose: false, format: Plain, task: Listing })"#,
@@ -896,12 +984,12 @@ fn definitions() -> &'static [Row] {
         ),
         (
             "txc|trace|a.c|--order||-D|N=threads",
-            br#"Ok([Definition { name: "N", number: Number { is_negative: false, magnitude: 2 } }], Program { file: "a.c", verbose: false, format: Plain, task: Trace { threads: 2, order: [], property: None } })"#,
+            br#"Ok([Definition { name: "N", number: Number { is_negative: false, magnitude: 2 } }], Program { file: "a.c", verbose: false, format: Plain, task: Trace { threads: 2, order: [], property: None, in_full: false } })"#,
         ),
         // a range of numbers of threads is no number
         (
             "txc|outcomes|a.c|--threads|2..4|-D|N=threads",
-            br#"Err(Wrong { text: "txc: usage: -D N=threads wants one number of threads\n" })"#,
+            br#"Err(Wrong { text: "txc: usage: -D N=threads needs one number of threads\n" })"#,
         ),
         (
             "txc|check|a.c|-D|N=1|-D|N=1",

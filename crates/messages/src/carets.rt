@@ -72,6 +72,25 @@ pub fn write_shown<W: Write>(text: &str, but: &str, to: &mut W) -> io::Result<()
     Ok(())
 }
 
+/// Writes untrusted text as a string of JSON (RFC 8259).
+pub fn write_quoted<W: Write>(text: &str, to: &mut W) -> io::Result<()> {
+    to.write_all(b"\"")?;
+    'characters: for c in text.chars() {
+        match c {
+            '"' => to.write_all(b"\\\"")?,
+            '\\' => to.write_all(b"\\\\")?,
+            _ => {
+                if c.is_control() {
+                    write!(to, "\\u{:04x}", u32::from(c))?;
+                } else {
+                    write!(to, "{c}")?;
+                }
+            }
+        }
+    }
+    to.write_all(b"\"")
+}
+
 /// Adds a part of a line; a control character is shown as `?`, and a tab stays.
 pub(crate) fn push_shown<A: Allocator>(
     shown: &mut String<A>,

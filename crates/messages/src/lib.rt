@@ -22,7 +22,7 @@ mod unexpected;
 mod warnings;
 
 pub use beside::hints;
-pub use carets::{underline, write_shown};
+pub use carets::{underline, write_quoted, write_shown};
 pub use editors::{Fault, short_line};
 pub use explanations::{end_explanation, explanation};
 pub use object::{json_line, warning_line};

@@ -14,6 +14,10 @@ pub mod Views
 pub mod Properties
 -- their Rust types as plain ones
 pub mod PropertyViews
+-- the text of the findings for every number of threads
+pub mod Coverings
+-- their Rust types as plain ones
+pub mod CoveringViews
 -- the orders of a set
 pub mod Listed
 -- definitions for private functions alone

@@ -2,6 +2,7 @@
 //! with a report; the findings about properties; and the line of each step of a replay.
 #![tactic(auto)]
 
+mod coverings;
 mod each_once;
 mod outcome_list;
 mod pieces;
@@ -13,6 +14,7 @@ mod report_set;
 mod same;
 mod timeline;
 
+pub use coverings::{CoveredFinding, CoveredProperty, coverings_text};
 pub use outcome_list::{ReportedOrder, WalkEnd, list_text};
 pub use pieces::{Piece, ThreadSeen, pieces_of, report_pieces};
 pub use printed::{End, Printed, Shown, ThreadShown};

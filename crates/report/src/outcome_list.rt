@@ -32,6 +32,8 @@ pub enum WalkEnd {
     AtSteps,
     /// The states and the list take more memory than they may.
     AtMemory,
+    /// The search or the list takes more time than it may.
+    AtTime,
 }
 
 /// Adds thread numbers, with a comma before each.
@@ -89,7 +91,7 @@ pub(crate) fn push_reported<A: Allocator + Copy>(
 }
 
 /// Adds the end of a line: the limit that stopped the walk, if one did.
-fn push_stop<A: Allocator>(list: &mut Vec<u8, A>, end: WalkEnd) -> Result<(), AllocError>
+pub(crate) fn push_stop<A: Allocator>(list: &mut Vec<u8, A>, end: WalkEnd) -> Result<(), AllocError>
     ensures { OnOk result (list.new.items ≡ list.old.items ++ stop_words end) }
 {
     match end {
@@ -97,6 +99,7 @@ fn push_stop<A: Allocator>(list: &mut Vec<u8, A>, end: WalkEnd) -> Result<(), Al
         WalkEnd::AtLimit => push_bytes(list, b", stopped at the limit\n"),
         WalkEnd::AtSteps => push_bytes(list, b", stopped at the steps\n"),
         WalkEnd::AtMemory => push_bytes(list, b", stopped at the memory\n"),
+        WalkEnd::AtTime => push_bytes(list, b", stopped at the time\n"),
     }
 }
 

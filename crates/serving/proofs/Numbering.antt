@@ -1,4 +1,4 @@
--- What is answered over sources with numbers in place of names.
+-- Answers over sources with numbers in place of names.
 use Rattle.std.proofs.Common.{◌≡◌, ◌≢◌, ◌∙◌, ◌≤◌, ◌<◌, ◌+◌, ◌++◌, ◌∷◌, ◌⊎◌, inl, inr, ℕ, List, [], Bool, true, false, Option, Some, None, length, take, get_or, refl, sym, ap, subst, arith}
 use Rattle.std.specs.Prelude.{Contains, IfSome, IsSomeAnd, if◌then◌else◌, string_bytes}
 use Rattle.std.specs.Str.{bytes_eq}
@@ -8,13 +8,14 @@ use Rattle.parameters.specs.declared.definition.Definition.{Definition}
 use Rattle.std.proofs.lemmas.List.{take_all, take_more}
 use Rattle.std.proofs.lemmas.List.Elements.{Contains-push_cases}
 use Rattle.command.specs.declared.request.Request.{Request}
-use Rattle.command.specs.declared.request.Request.TheVariants.{Program, Certify, Compare, Ask, Explain, ExplainEnd}
+use Rattle.command.specs.declared.request.Request.TheVariants.{Program, Certify, Compare, Ask, Cover}
+use Rattle.command.specs.declared.request.Request.TheVariants.{Explain, ExplainEnd}
 use Rattle.serving.specs.Answers.{most_status}
 use Rattle.serving.specs.Files.{AnswersFiles, Contents, RefusesSource, WritesForFiles}
 use Rattle.serving.specs.Numbers.{AnswersAsked, AreWithNumbers, IsWithNumbers, IsSource, IsUsedInSource, ServesAsked, read_of, sources_of}
 use Rattle.serving.specs.inner.Numbers.{AreUsedIn, contents_with}
 
--- files without numbers are answered as they are
+-- without definitions, files are read unchanged
 pub answered_as_they_are : (asked : Asked) (contents : Contents) (status : ℕ) (old new : Option (List ℕ)) → asked.definitions.items ≡ [] → AnswersFiles asked.request contents status old new → WritesForFiles asked.request contents old new → (status ≡ 1 → RefusesSource asked.request contents) → (status ≡ 1 → new ≡ old) → AnswersAsked asked contents status old new
 answered_as_they_are asked contents status old new none answer written refused untouched = record {
   numbered = contents;
@@ -25,7 +26,7 @@ answered_as_they_are asked contents status old new none answer written refused u
   untouched = untouched;
 }
 
--- files with numbers are answered
+-- requests over files with numbers are answered
 pub answered_with_numbers : (asked : Asked) (contents numbered : Contents) (status : ℕ) (old new : Option (List ℕ)) → AreWithNumbers asked contents numbered → AnswersFiles asked.request numbered status old new → WritesForFiles asked.request numbered old new → (status ≡ 1 → RefusesSource asked.request numbered) → (status ≡ 1 → new ≡ old) → ServesAsked asked contents status old new
 answered_with_numbers asked contents numbered status old new are answer written refused untouched = inl (record {
   numbered = numbered;
@@ -122,6 +123,7 @@ few_statuses (Program file verbose format task) = omega arith
 few_statuses (Certify file verbose format claim) = omega arith
 few_statuses (Compare file verbose format comparison) = omega arith
 few_statuses (Ask file verbose format questions) = omega arith
+few_statuses (Cover file verbose format coverage) = omega arith
 few_statuses (Explain number) = omega arith
 few_statuses (ExplainEnd word number) = omega arith
 

@@ -1,13 +1,15 @@
 -- The response to a request: the meaning of a status for what was printed, and what is written for any status.
 use Rattle.std.specs.Prelude.{ℕ, List, Option, IfSome}
 use Rattle.command.specs.declared.request.Request.{Request}
-use Rattle.command.specs.declared.request.Request.TheVariants.{Program, Certify, Compare, Ask, Explain, ExplainEnd}
+use Rattle.command.specs.declared.request.Request.TheVariants.{Program, Certify, Compare, Ask, Cover}
+use Rattle.command.specs.declared.request.Request.TheVariants.{Explain, ExplainEnd}
 use Rattle.command.specs.declared.request.Task.{Task}
 use Rattle.command.specs.declared.request.Task.TheVariants.{Check, Listing, Run, Replay, Timeline, Picture}
-use Rattle.command.specs.declared.request.Task.TheVariants.{PrintOrder, PrintSchedule, Source, Trace, Outcomes}
+use Rattle.command.specs.declared.request.Task.TheVariants.{PrintOrder, PrintSchedule, Source, Trace, Explore, Outcomes}
 use Rattle.serving.specs.Certified.{CertifiesReport, WritesVerdict}
 use Rattle.serving.specs.Checks.{Accepts, SaysAccepted}
 use Rattle.serving.specs.Compared.{ComparesOutcomes, WritesComparison}
+use Rattle.serving.specs.Coverings.{AnswersCoverage, IsCoverageOf}
 use Rattle.serving.specs.Listings.{PrintsListing}
 use Rattle.serving.specs.Reports.{PrintsReport}
 use Rattle.serving.specs.InTurn.{SaysOfRange}
@@ -16,6 +18,7 @@ use Rattle.serving.specs.Properties.{AnswersQuestions, IsToldOf}
 use Rattle.serving.specs.Orders.{RunsInOrder, RunsInSomeOrder}
 use Rattle.serving.specs.Runs.{RunsConcurrently}
 use Rattle.serving.specs.Pictures.{PrintsPicture, ReplaysDrawn}
+use Rattle.serving.specs.Explored.{PrintsPage}
 use Rattle.serving.specs.Traces.{PrintsTrace, TracesOrder}
 use Rattle.serving.specs.Written.{IsAskedFor, WritesPart}
 use Rattle.serving.specs.Replays.{PrintsOrder, PrintsSchedule, PrintsTimeline, Replays, ReplaysShown}
@@ -44,9 +47,10 @@ Answers (PrintOrder threads order) schedule text status old new =
     PrintsOrder threads order.items text status old new
 Answers (Source threads order ticks) schedule text status old new =
     PrintsReport (λ shown. RunsInOrder threads ticks order.items text shown × Accepts text) status old new
-Answers (Trace threads order property) schedule text status old new =
+Answers (Trace threads order property in_full) schedule text status old new =
     PrintsTrace (λ written shown. TracesOrder threads order.items text written shown) status old new
-Answers (Outcomes threads steps limit memory) schedule text status old new =
+Answers (Explore threads order always) schedule text status old new = PrintsPage text status old new
+Answers (Outcomes threads steps limit memory time traces) schedule text status old new =
     SaysOfRange (λ n s o w. PrintsOutcomes n text s o w) threads status old new
 
 -- a request, if these are the bytes of the file
@@ -60,6 +64,8 @@ AnswersRequest (Compare file verbose format comparison) schedule report bytes st
     ComparesOutcomes comparison report bytes status old new
 AnswersRequest (Ask file verbose format questions) schedule report bytes status old new =
     AnswersQuestions questions bytes status old new
+AnswersRequest (Cover file verbose format coverage) schedule report bytes status old new =
+    AnswersCoverage coverage bytes status old new
 AnswersRequest (Explain number) schedule report bytes status old new = Unit {0}
 AnswersRequest (ExplainEnd word number) schedule report bytes status old new = Unit {0}
 
@@ -74,6 +80,8 @@ WritesFor (Compare file verbose format comparison) schedule report bytes old new
     IfSome bytes (λ text. WritesComparison comparison report text old new)
 WritesFor (Ask file verbose format questions) schedule report bytes old new =
     IfSome bytes (λ text. WritesPart (IsToldOf questions text) old new)
+WritesFor (Cover file verbose format coverage) schedule report bytes old new =
+    IfSome bytes (λ text. WritesPart (IsCoverageOf coverage text) old new)
 WritesFor (Explain number) schedule report bytes old new = Unit {0}
 WritesFor (ExplainEnd word number) schedule report bytes old new = Unit {0}
 
@@ -83,5 +91,6 @@ most_status (Program file verbose format task) = 4
 most_status (Certify file verbose format claim) = 5
 most_status (Compare file verbose format comparison) = 5
 most_status (Ask file verbose format questions) = 5
+most_status (Cover file verbose format coverage) = 5
 most_status (Explain number) = 4
 most_status (ExplainEnd word number) = 4

@@ -1,13 +1,15 @@
 -- The files that a request names.
 use Rattle.std.specs.Prelude.{ℕ, List, [], Option, Some, None, IfSome, string_bytes}
 use Rattle.command.specs.declared.request.Request.{Request}
-use Rattle.command.specs.declared.request.Request.TheVariants.{Program, Certify, Compare, Ask, Explain, ExplainEnd}
+use Rattle.command.specs.declared.request.Request.TheVariants.{Program, Certify, Compare, Ask, Cover}
+use Rattle.command.specs.declared.request.Request.TheVariants.{Explain, ExplainEnd}
 use Rattle.command.specs.declared.request.Steps.TheVariants.{Schedule}
 use Rattle.command.specs.declared.request.Task.{Task}
 use Rattle.command.specs.declared.request.Task.TheVariants.{Picture, Replay, Timeline}
 use Rattle.serving.specs.Answers.{Answers}
 use Rattle.serving.specs.Certified.{CertifiesReport, WritesVerdict}
 use Rattle.serving.specs.Compared.{ComparesOutcomes, HaveNoCode, WritesComparison, name_of}
+use Rattle.serving.specs.Coverings.{AnswersCoverage, IsCoverageOf}
 use Rattle.serving.specs.Limits.{HasNoCode}
 use Rattle.serving.specs.Properties.{AnswersQuestions, IsToldOf}
 use Rattle.serving.specs.Refusals.{IsRefused}
@@ -41,6 +43,8 @@ AnswersFiles (Compare file verbose format comparison) contents status old new = 
     (λ bytes. ComparesOutcomes comparison (contents (name_of comparison.against)) bytes status old new)
 AnswersFiles (Ask file verbose format questions) contents status old new = IfSome (contents (string_bytes file))
     (λ bytes. AnswersQuestions questions bytes status old new)
+AnswersFiles (Cover file verbose format coverage) contents status old new = IfSome (contents (string_bytes file))
+    (λ bytes. AnswersCoverage coverage bytes status old new)
 AnswersFiles (Explain number) contents status old new = Unit {0}
 AnswersFiles (ExplainEnd word number) contents status old new = Unit {0}
 
@@ -55,6 +59,8 @@ WritesForFiles (Compare file verbose format comparison) contents old new = IfSom
     (λ bytes. WritesComparison comparison (contents (name_of comparison.against)) bytes old new)
 WritesForFiles (Ask file verbose format questions) contents old new = IfSome (contents (string_bytes file))
     (λ bytes. WritesPart (IsToldOf questions bytes) old new)
+WritesForFiles (Cover file verbose format coverage) contents old new = IfSome (contents (string_bytes file))
+    (λ bytes. WritesPart (IsCoverageOf coverage bytes) old new)
 WritesForFiles (Explain number) contents old new = Unit {0}
 WritesForFiles (ExplainEnd word number) contents old new = Unit {0}
 
@@ -67,6 +73,8 @@ RefusesSource (Certify file verbose format claim) contents =
 RefusesSource (Compare file verbose format comparison) contents = IfSome (contents (string_bytes file))
     (λ bytes. HaveNoCode comparison.against (contents (name_of comparison.against)) bytes)
 RefusesSource (Ask file verbose format questions) contents =
+    IfSome (contents (string_bytes file)) (λ bytes. HasNoCode bytes)
+RefusesSource (Cover file verbose format coverage) contents =
     IfSome (contents (string_bytes file)) (λ bytes. HasNoCode bytes)
 RefusesSource (Explain number) contents = ⊥
 RefusesSource (ExplainEnd word number) contents = ⊥

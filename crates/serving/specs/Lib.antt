@@ -1,4 +1,4 @@
--- words that are no request
+-- words that are not a request
 pub mod Usage
 -- the meaning of a status for a report
 pub mod Reports
@@ -24,6 +24,8 @@ pub mod Runs
 pub mod Replays
 -- orders shown turn by turn
 pub mod Traces
+-- pages of all orders
+pub mod Explored
 -- pictures of replays
 pub mod Pictures
 -- why a source is refused
@@ -52,6 +54,8 @@ pub mod Compared
 pub mod Askable
 -- properties of a source's text
 pub mod Properties
+-- properties of a source's text for every number of threads
+pub mod Coverings
 -- the response to a request
 pub mod Answers
 -- the files that a request names

@@ -5,7 +5,8 @@ use Rattle.command.specs.declared.request.Against.{Against}
 use Rattle.command.specs.declared.request.Against.TheVariants.{Refined, Expected}
 use Rattle.command.specs.declared.request.Asked.{Asked}
 use Rattle.command.specs.declared.request.Request.{Request}
-use Rattle.command.specs.declared.request.Request.TheVariants.{Program, Certify, Compare, Ask, Explain, ExplainEnd}
+use Rattle.command.specs.declared.request.Request.TheVariants.{Program, Certify, Compare, Ask, Cover}
+use Rattle.command.specs.declared.request.Request.TheVariants.{Explain, ExplainEnd}
 use Rattle.lex.specs.declared.lexer.TheConstants.{MOST_BYTES}
 use Rattle.parameters.specs.declared.definition.Definition.{Definition}
 use Rattle.parameters.specs.Puts.{IsPutIn, IsUsedIn}
@@ -22,6 +23,7 @@ sources_of (Program file verbose format task) = Some (string_bytes file, string_
 sources_of (Certify file verbose format claim) = Some (string_bytes file, string_bytes file)
 sources_of (Compare file verbose format c) = Some (string_bytes file, other_of (string_bytes file) c.against)
 sources_of (Ask file verbose format questions) = Some (string_bytes file, string_bytes file)
+sources_of (Cover file verbose format coverage) = Some (string_bytes file, string_bytes file)
 sources_of (Explain number) = None
 sources_of (ExplainEnd word number) = None
 
@@ -32,7 +34,7 @@ IsSource request name = IsSomeAnd (sources_of request) (λ s. (name ≡ s.0) ⊎
 abbrev pub read_of : List ℕ → List ℕ
 read_of bytes = take (MOST_BYTES + 1) bytes
 
--- a text with numbers in place of names; what is no text stays as it is
+-- a text with numbers in place of names; bytes that are not text stay the same
 pub record IsWithNumbers (ds : List Definition) (bytes new : List ℕ) : Type 0 where
   pub of_text : IsUtf8 bytes → IsPutIn ds bytes new
   pub no_text : (IsUtf8 bytes → ⊥) → new ≡ bytes

@@ -14,7 +14,7 @@ use Rattle.picture.specs.Replayed.{IsDrawn}
 use Rattle.command.specs.declared.request.Steps.{Steps}
 use Rattle.command.specs.declared.request.Task.{Task}
 use Rattle.command.specs.declared.request.Task.TheVariants.{Check, Listing, Run, Replay, Timeline, Picture}
-use Rattle.command.specs.declared.request.Task.TheVariants.{PrintOrder, PrintSchedule, Source, Trace, Outcomes}
+use Rattle.command.specs.declared.request.Task.TheVariants.{PrintOrder, PrintSchedule, Source, Trace, Explore, Outcomes}
 use Rattle.serving.specs.Checks.{Accepts}
 use Rattle.serving.specs.Codes.{Compiles}
 use Rattle.serving.specs.Listings.{ShowsListing}
@@ -23,6 +23,7 @@ use Rattle.serving.specs.Outcomes.{IsListOfOutcomes}
 use Rattle.serving.specs.Orders.{RunsInOrder}
 use Rattle.serving.specs.Replays.{AreTurnsOf, IsReplayOfText, lines_of_seed}
 use Rattle.serving.specs.Runs.{RunsConcurrently}
+use Rattle.serving.specs.Explored.{IsPageOf}
 use Rattle.serving.specs.Traces.{IsOrderTrace}
 
 -- a report for which this holds
@@ -77,8 +78,9 @@ IsAskedFor (PrintSchedule threads seed count) schedule text written = IsSeedSche
 IsAskedFor (PrintOrder threads order) schedule text written = IsOrderSchedule threads order.items text written
 IsAskedFor (Source threads order ticks) schedule text written =
     IsReportOf (λ shown. RunsInOrder threads ticks order.items text shown × Accepts text) written
-IsAskedFor (Trace threads order property) schedule text written = IsOrderTrace threads order.items text written
-IsAskedFor (Outcomes threads steps limit memory) schedule text written =
+IsAskedFor (Trace threads order property in_full) schedule text written = IsOrderTrace threads order.items text written
+IsAskedFor (Explore threads order always) schedule text written = IsPageOf text written
+IsAskedFor (Outcomes threads steps limit memory time traces) schedule text written =
     AreTextsOfRange (λ n list. IsListOfOutcomes n text list) threads written
 
 -- a text is written, or a prefix of it

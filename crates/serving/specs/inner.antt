@@ -22,3 +22,5 @@ pub mod Askable
 pub mod Properties
 -- files with numbers in place of names
 pub mod Numbers
+-- the values of properties in memories that nodes represent
+pub mod Coverings

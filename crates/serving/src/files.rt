@@ -13,8 +13,9 @@ ghost use Rattle.serving.specs.inner.Serves.{ServesTask};
 use crate::ask::open_asked;
 use crate::certify::open_claim;
 use crate::compared::open_comparison;
+use crate::cover::open_covered;
 use crate::request::{explain, explain_end, serve_program};
-use crate::tell::{Detail, Teller, not_text, refuse_replay};
+use crate::tell::{Detail, Teller, refuse_replay};
 use crate::timed::Timed;
 use bytecode::Code;
 use command::{Request, Steps, Task};
@@ -29,12 +30,12 @@ use std::thread::Threads;
 use std::time::Clock;
 use world::WorldFault;
 
-/// Where files are opened by their names.
+/// A place where files are opened by their names.
 pub trait Files {
     /// A file that was opened, to be read from its beginning.
     type File: Read + Drop;
 
-    /// The bytes of the file of each name, where they are known.
+    /// The bytes of the file with each name, if they are known.
     ghost contents: { Self → List ℕ → Option (List ℕ) };
 
     /// Opens the file of a name.
@@ -42,13 +43,14 @@ pub trait Files {
         ensures { IfOk result (λ file. Self.File.remaining file ≡ contents self.now name.now) };
 }
 
-/// Opens the files that a request names, does what is asked over them and two writers, and gives the exit status, as
+/// Opens the files that a request names, answers the request over them and two writers, and returns the exit status, as
 /// `serve` does.
 ///
-/// The source is opened first, and then a schedule, or an order and a report, or what outcomes are compared with, where
-/// they are named. What cannot be opened is told of as what cannot be read. The line of a fault follows it where `err` is
-/// a terminal, or the words ask for it. A line that tells there how far a walk over states is has the seconds since it
-/// was asked for, by the clock of `rt`.
+/// The source is opened first, and then a schedule, or an order and a report, or the file with which outcomes are
+/// compared, if the request names them. A file that cannot be opened is reported as one that cannot be read. The source
+/// line of a fault follows the fault if `err` is a terminal, or if the request asks for it. A progress line on a
+/// terminal has the seconds since the request, by the clock of `rt`. The same clock ends a search that has a time
+/// limit.
 pub fn serve_files<
     H: Threads + Wait + Clock + Sync,
     F: Files,
@@ -71,8 +73,8 @@ pub fn serve_files<
             let file = file.as_str();
             let detail = Detail::of(file, *verbose, *format, err.is_terminal());
             match task {
-                Task::Outcomes { .. } => {
-                    let mut timed = Timed::new(err, rt);
+                Task::Outcomes { time, .. } => {
+                    let mut timed = Timed::new(err, rt, *time);
                     let mut teller = Teller::new(&mut timed, detail);
                     open_source(rt, alloc, file, task, files, out, &mut teller)
                 }
@@ -99,7 +101,7 @@ pub fn serve_files<
             comparison,
         } => {
             let detail = Detail::of(file.as_str(), *verbose, *format, err.is_terminal());
-            let mut timed = Timed::new(err, rt);
+            let mut timed = Timed::new(err, rt, comparison.time);
             let mut teller = Teller::new(&mut timed, detail);
             open_comparison(alloc, file.as_str(), comparison, files, out, &mut teller)
         }
@@ -110,16 +112,27 @@ pub fn serve_files<
             questions,
         } => {
             let detail = Detail::of(file.as_str(), *verbose, *format, err.is_terminal());
-            let mut timed = Timed::new(err, rt);
+            let mut timed = Timed::new(err, rt, questions.time);
             let mut teller = Teller::new(&mut timed, detail);
             open_asked(alloc, file.as_str(), questions, files, out, &mut teller)
+        }
+        Request::Cover {
+            file,
+            verbose,
+            format,
+            coverage,
+        } => {
+            let detail = Detail::of(file.as_str(), *verbose, *format, err.is_terminal());
+            let mut timed = Timed::new(err, rt, None);
+            let mut teller = Teller::new(&mut timed, detail);
+            open_covered(alloc, file.as_str(), coverage, files, out, &mut teller)
         }
         Request::Explain { number } => explain(*number, out, err),
         Request::ExplainEnd { word, number } => explain_end(word.as_str(), *number, out, err),
     }
 }
 
-/// Opens the source, and then does what is asked.
+/// Opens the source, and then answers the request.
 fn open_source<H: Threads + Wait + Sync, F: Files, W: Write, E: Write + Send>(
     rt: &H,
     alloc: Global,
@@ -138,7 +151,7 @@ fn open_source<H: Threads + Wait + Sync, F: Files, W: Write, E: Write + Send>(
     }
 }
 
-/// Opens the schedule that a task names, if it names one, and then does what is asked.
+/// Opens the schedule that a task names, if it names one, and then answers the request.
 fn open_schedule<H: Threads + Wait + Sync, F: Files, R: Read + Drop, W: Write, E: Write + Send>(
     rt: &H,
     alloc: Global,
@@ -181,7 +194,7 @@ pub fn schedule_of(task: &Task) -> Option<&str>
     }
 }
 
-/// Reads a source. What is wrong with it is told, and the error is then the exit status.
+/// Reads a source. The error is the exit status, and the reason is reported on standard error.
 pub(crate) fn text_of<A: Allocator + Copy, R: Read + Drop, E: Write>(
     alloc: A,
     source: R,
@@ -193,7 +206,10 @@ pub(crate) fn text_of<A: Allocator + Copy, R: Read + Drop, E: Write>(
 {
     match read_source(alloc, source) {
         Ok(SourceText::Text(text)) => Ok(text),
-        Ok(SourceText::NotText) => Err(not_text(teller.detail.file, teller.err)),
+        Ok(SourceText::NotText) => {
+            let file = teller.detail.file;
+            Err(teller.not_text(file))
+        }
         Ok(SourceText::TooLong) => Err(teller.too_long(alloc)),
         Err(error) => {
             let file = teller.detail.file;
@@ -205,7 +221,7 @@ pub(crate) fn text_of<A: Allocator + Copy, R: Read + Drop, E: Write>(
 /// One byte more than a source may have.
 const BEYOND_MOST_BYTES: u64 = MOST_BYTES as u64 + 1;
 
-/// What a file holds, as a source.
+/// The contents of a file, as a source.
 #[derive(Drop)]
 pub enum SourceText<A: Allocator = Global> {
     Text(String<A>),
@@ -224,7 +240,7 @@ pub fn read_bytes<A: Allocator, R: Read + Drop>(alloc: A, source: R) -> io::Resu
     Ok(bytes)
 }
 
-/// What bytes are as a source.
+/// Bytes as a source.
 fn source_of<A: Allocator>(bytes: Vec<u8, A>) -> SourceText<A>
     ensures { IsTextOf bytes.items result }
 {
@@ -234,7 +250,7 @@ fn source_of<A: Allocator>(bytes: Vec<u8, A>) -> SourceText<A>
     }
 }
 
-/// Reads a source: all of it, where it is a text, and else up to one byte past the most that it may have.
+/// Reads a source: all of it if it is a text, and otherwise up to one byte past the most that it may have.
 pub fn read_source<A: Allocator, R: Read + Drop>(alloc: A, source: R) -> io::Result<SourceText<A>>
     ensures { IfOk result (λ s. IfSome (R.remaining source) (λ bytes. IsTextOf bytes s)) }
 {
@@ -246,7 +262,7 @@ pub fn read_source<A: Allocator, R: Read + Drop>(alloc: A, source: R) -> io::Res
     }
 }
 
-/// Reads a text to its end. There is none where the bytes are not UTF-8.
+/// Reads a text to its end. There is none if the bytes are not UTF-8.
 fn read_text<A: Allocator, R: Read + Drop>(alloc: A, mut reader: R) -> io::Result<Option<String<A>>>
     ensures { IfOk result (λ o. IfSome o (λ s. IfSome (R.remaining reader) (λ bytes. string_bytes s ≡ bytes))) }
 {
@@ -255,7 +271,7 @@ fn read_text<A: Allocator, R: Read + Drop>(alloc: A, mut reader: R) -> io::Resul
     Ok(String::from_utf8(bytes).ok())
 }
 
-/// The lines of a schedule, a seed or an order. What is wrong with them is told, and the error is then the exit status.
+/// The lines of a schedule, a seed or an order. The error is the exit status, and the reason is reported.
 pub(crate) fn lines_of<A: Allocator + Copy, S: Read + Drop, E: Write>(
     alloc: A,
     code: &Code<A>,
@@ -294,6 +310,16 @@ pub(crate) fn lines_in_order<A: Allocator + Copy, E: Write>(
     }
 }
 
+/// The lines of an order of whole transactions, if there are any. Nothing is reported.
+pub(crate) fn lines_if_any<A: Allocator + Copy>(
+    alloc: A,
+    code: &Code<A>,
+    threads: u32,
+    order: &[u32],
+) -> Option<Vec<Line, A>> {
+    turns(alloc, code, threads, order).ok()
+}
+
 /// The lines of a schedule.
 fn lines_read<A: Allocator + Copy, S: Read + Drop, E: Write>(
     alloc: A,
@@ -309,7 +335,7 @@ fn lines_read<A: Allocator + Copy, S: Read + Drop, E: Write>(
             Ok(found) => Ok(found),
             Err(fault) => Err(teller.refuse_schedule(alloc, text.as_str(), fault)),
         },
-        Ok(None) => Err(not_text(file, teller.err)),
+        Ok(None) => Err(teller.not_text(file)),
         Err(error) => Err(teller.not_read(file, &error)),
     }
 }

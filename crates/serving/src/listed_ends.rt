@@ -1,21 +1,22 @@
-//! Where threads stand that trapped in listed outcomes, or wait in orders that are stuck, and which option lets a walk go
-//! on that was stopped, told behind the list.
+//! Reports after a list: where threads trapped in listed outcomes or wait in stuck orders, and which option lets a
+//! stopped search continue.
 
-use crate::ends::{is_some_new, tell_threads};
+use crate::ends::{is_some_new, tell_long, tell_threads};
 use crate::program::read_accepted;
 use crate::properties::PropertiesFound;
+use crate::reasons::Reason;
 use crate::source::order_accepted;
 use crate::tell::Teller;
 use crate::walked::OutcomesFound;
 use lex::token::Span;
-use report::{End, ReportedOrder, ThreadShown, WalkEnd};
+use report::{End, Finding, Property, ReportedOrder, ThreadShown, WalkEnd};
 use separation::Accepted;
 use std::alloc::Allocator;
 use std::io::Write;
 
-/// Tells where threads trapped in outcomes, and where they stand in orders that are stuck, where lines are wanted: of
-/// each order that shows a place of which none before has told. The orders are run once more for it. Of a walk that was
-/// stopped it says which option lets it go on.
+/// If lines are wanted, reports where threads trapped in outcomes, and where they wait in stuck orders. It covers each
+/// order that shows a place not reported before, and runs these orders once more. If a search was stopped, it reports
+/// which option lets the search continue.
 pub(crate) fn tell_listed_ends<A: Allocator + Copy, E: Write>(
     alloc: A,
     text: &str,
@@ -35,12 +36,13 @@ pub(crate) fn tell_listed_ends<A: Allocator + Copy, E: Write>(
         tell_orders(
             alloc, text, &accepted, threads, stuck, &mut shown, teller.err,
         );
+        tell_reason(alloc, text, &accepted, threads, &found.reason, teller.err);
     }
     tell_stop(found.end, teller.err);
 }
 
-/// Tells where threads stand in orders that are stuck, where properties are asked and lines are wanted, as of listed
-/// ones. Of a walk that was stopped it says which option lets it go on.
+/// If lines are wanted, reports where threads wait in the stuck orders of a search for properties, as after a list.
+/// If the search was stopped, it also reports which option lets it continue.
 pub(crate) fn tell_asked_ends<A: Allocator + Copy, E: Write>(
     alloc: A,
     text: &str,
@@ -62,23 +64,95 @@ pub(crate) fn tell_asked_ends<A: Allocator + Copy, E: Write>(
             teller.err,
             "txc: each property has its answer, so the search stopped; --keep-going continues it"
         );
-    } else {
+    } else if found.end != WalkEnd::Whole {
+        tell_answered(found.properties.as_slice(), teller.err);
+        tell_reason(alloc, text, accepted, threads, &found.reason, teller.err);
         tell_stop(found.end, teller.err);
     }
 }
 
-/// Says which option lets a walk go on that was stopped.
+/// Whether a property has an answer.
+fn is_answered<A: Allocator>(one: &Property<A>) -> bool {
+    match &one.finding {
+        Finding::Open(_) => false,
+        Finding::Holds(_) | Finding::Fails(_) | Finding::Spent(_) => true,
+    }
+}
+
+/// Reports which properties have an answer and which have none, if some have one.
+fn tell_answered<A: Allocator, E: Write>(properties: &[Property<A>], err: &mut E) {
+    if properties.iter().any(|one| is_answered(one)) {
+        tell_names(b"txc: answered: ", properties, true, err);
+        tell_names(b"txc: not answered: ", properties, false, err);
+    }
+}
+
+/// Reports the names of the properties that have an answer, or of those that have none, after these words.
+fn tell_names<A: Allocator, E: Write>(
+    words: &[u8],
+    properties: &[Property<A>],
+    have_answer: bool,
+    err: &mut E,
+) {
+    let mut is_first = true;
+    'properties: for one in properties {
+        if is_answered(one) == have_answer {
+            let _ = err.write_all(if is_first { words } else { b", ".as_slice() });
+            let _ = err.write_all(one.name.as_str().as_bytes());
+            is_first = false;
+        }
+    }
+    if !is_first {
+        let _ = err.write_all(b"\n");
+    }
+}
+
+/// The number of ticks after which a thread's turn counts as too long.
+const LONG_TICKS: u64 = 1000000;
+
+/// Reports why a search stopped.
+fn tell_reason<A: Allocator + Copy, E: Write>(
+    alloc: A,
+    text: &str,
+    accepted: &Accepted<A>,
+    threads: u32,
+    reason: &Reason<A>,
+    err: &mut E,
+) {
+    match reason {
+        Reason::Untold => {}
+        Reason::LongTurn(order) => {
+            let order = order.as_slice();
+            write_order(order, err);
+            if let Ok((printed, stood)) = order_accepted(
+                alloc, accepted, threads, order, LONG_TICKS,
+            ) {
+                let found = printed.threads.as_slice();
+                tell_long(alloc, text, found, stood.as_slice(), err);
+            }
+        }
+        Reason::Spread(words) => {
+            let _ = err.write_all(b"txc: ");
+            let _ = err.write_all(words.as_slice());
+            let _ = err.write_all(b"\n");
+        }
+    }
+}
+
+/// Reports which option lets a stopped search continue.
 pub(crate) fn tell_stop<E: Write>(end: WalkEnd, err: &mut E) {
     let words = match end {
         WalkEnd::Whole => return,
         WalkEnd::AtLimit => "--limit L is how many states it looks at",
         WalkEnd::AtSteps => "--steps N is how many steps a thread may make in one turn",
         WalkEnd::AtMemory => "--memory MB is how much memory states and list may take",
+        WalkEnd::AtTime =>
+            "--time SECONDS is how long the search may take, and as long again the list",
     };
     let _ = writeln!(err, "txc: {words}");
 }
 
-/// Tells of each of these orders where threads stand.
+/// Reports for each of these orders where its threads trapped or wait.
 fn tell_orders<A: Allocator + Copy, E: Write>(
     alloc: A,
     text: &str,
@@ -105,7 +179,7 @@ fn have_all_ended<A: Allocator>(threads: &[ThreadShown<A>]) -> bool {
     true
 }
 
-/// Tells of an order where threads stand, if one stands at a place that was not shown yet.
+/// Reports where the threads of an order trapped or wait, if one is at a place that has not been shown yet.
 fn tell_order<A: Allocator + Copy, E: Write>(
     alloc: A,
     text: &str,
@@ -125,16 +199,22 @@ fn tell_order<A: Allocator + Copy, E: Write>(
     }
 }
 
-/// Tells of which order what follows is, as a word of a command line.
+/// Names the order that the next report is about, as a word of a command line.
 pub(crate) fn write_order<E: Write>(order: &[u32], err: &mut E) {
     let _ = err.write_all(b"txc: with --order ");
-    if let [first, others @ ..] = order {
-        let _ = write!(err, "{first}");
-        'others: for thread in others {
-            let _ = write!(err, ",{thread}");
-        }
-    } else {
+    if order.is_empty() {
         let _ = err.write_all(b"''");
     }
+    push_numbers(order, err);
     let _ = err.write_all(b"\n");
+}
+
+/// Writes numbers, joined by commas.
+pub(crate) fn push_numbers<E: Write>(numbers: &[u32], err: &mut E) {
+    if let [first, others @ ..] = numbers {
+        let _ = write!(err, "{first}");
+        'others: for number in others {
+            let _ = write!(err, ",{number}");
+        }
+    }
 }

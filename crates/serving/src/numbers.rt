@@ -17,7 +17,7 @@ use std::thread::Threads;
 use std::time::Clock;
 use std::{io, str};
 
-/// The sources of a request, and how their faults are told.
+/// The sources of a request, and how their faults are reported.
 #[derive(Drop)]
 struct Sources<'a> {
     file: &'a str,
@@ -55,6 +55,12 @@ fn sources_of(request: &Request) -> Option<Sources<'_>>
             ..
         }
         | Request::Ask {
+            file,
+            verbose,
+            format,
+            ..
+        }
+        | Request::Cover {
             file,
             verbose,
             format,
@@ -128,8 +134,8 @@ impl<'a, F: Files> Files for Numbered<'a, F> {
     }
 }
 
-/// What is read of a source, all of it or one byte more than a source may have. What hinders it is told, and the error is
-/// then the exit status.
+/// The bytes read from a source: all of them, or one more than the size limit. The error is the exit status, and the
+/// reason is reported on standard error.
 fn source_read<F: Files, E: Write>(
     alloc: Global,
     files: &F,
@@ -148,7 +154,7 @@ fn source_read<F: Files, E: Write>(
     }
 }
 
-/// What was read of a source, with numbers in place of names. What is no text stays as it is.
+/// The bytes of a source, with numbers in place of names. Bytes that are not text stay unchanged.
 fn with_numbers(
     alloc: Global,
     definitions: &[Definition],
@@ -208,7 +214,7 @@ fn first_unused<'a>(
     Ok(None)
 }
 
-/// Says that a name is in no source.
+/// Reports that a name is in no source.
 fn unused<E: Write>(name: &str, file: &str, err: &mut E) -> u8
     ensures { result ≡ 2 }
 {
@@ -218,7 +224,7 @@ fn unused<E: Write>(name: &str, file: &str, err: &mut E) -> u8
     UNUSABLE
 }
 
-/// Says that there is no source that could have a name.
+/// Reports that there is no source that could contain a name.
 fn sourceless<E: Write>(err: &mut E) -> u8
     ensures { result ≡ 2 }
 {
@@ -226,8 +232,8 @@ fn sourceless<E: Write>(err: &mut E) -> u8
     UNUSABLE
 }
 
-/// What was read of two sources, with numbers in place of names, where each name is in one of them. What hinders it is
-/// told, and the error is then the exit status.
+/// The bytes of two sources, with numbers in place of names, if each name is in one of them. The error is the exit
+/// status, and the reason is reported on standard error.
 fn both_numbered<E: Write>(
     alloc: Global,
     definitions: &[Definition],
@@ -254,7 +260,7 @@ fn both_numbered<E: Write>(
     }
 }
 
-/// Does what is asked over sources that were read, with numbers in place of their names.
+/// Answers a request over sources that were read, with numbers in place of their names.
 fn serve_read<H: Threads + Wait + Clock + Sync, F: Files, W: Write, E: Write + IsTerminal + Send>(
     rt: &H,
     alloc: Global,
@@ -289,7 +295,7 @@ fn serve_read<H: Threads + Wait + Clock + Sync, F: Files, W: Write, E: Write + I
     }
 }
 
-/// Reads the sources, and then does what is asked with numbers in place of their names.
+/// Reads the sources, and then answers the request with numbers in place of their names.
 fn serve_sources<
     H: Threads + Wait + Clock + Sync,
     F: Files,
@@ -332,8 +338,8 @@ fn serve_sources<
     }
 }
 
-/// Does what is asked over files and two writers, with numbers in place of names of sources, and gives the exit status,
-/// as `serve_files` does. The sources are read first if a name is defined.
+/// Answers a request over files and two writers, with numbers in place of names of sources, as `serve_files` does, and
+/// returns the exit status. The sources are read first if a name is defined.
 pub fn serve_asked<
     H: Threads + Wait + Clock + Sync,
     F: Files,

@@ -10,31 +10,33 @@ ghost use Rattle.serving.specs.inner.Serves.{Serves, ServesText};
 
 use crate::ask::refuse_names;
 use crate::ends::{Stood, tell_ends};
-use crate::files::lines_in_order;
+use crate::files::{lines_if_any, lines_in_order};
+use crate::listed_ends::write_order;
 use crate::print::has_trapped;
 use crate::program::{Compiled, compile, unit_of};
 use crate::replays::{Replayed, print_for_replay, replay_code};
 use crate::tell::{Teller, out_of_memory, refuse_replay};
-use containers::Items;
+use command::Format;
 use lex::lex;
 use meaning::{Reply, asked_program};
 use replay::Line;
+use report::ReportedOrder;
 use std::alloc::{AllocError, Allocator};
 use std::io::Write;
 use syntax::thread_end::Status;
-use traces::{ThreadAt, names_of, trace_text};
-use turns::{Source, Traced, push_passage, push_place, turns_shown};
+use turns::{Asked, Form, Source, Standing, Traced, View, turns_shown, view_text};
 
 /// The most ticks that a property takes.
 const MOST_TICKS: u64 = 1000000;
 
-/// Shows an order of a source's threads turn by turn, and what a function says of the last memory.
+/// Shows an order of a source's threads turn by turn, and the value of a function in the last memory.
 pub(crate) fn trace<A: Allocator + Copy, W: Write, E: Write>(
     alloc: A,
     text: &str,
     threads: u32,
     order: &[u32],
     property: Option<&str>,
+    in_full: bool,
     out: &mut W,
     teller: &mut Teller<'_, E>,
 ) -> u8
@@ -51,6 +53,7 @@ pub(crate) fn trace<A: Allocator + Copy, W: Write, E: Write>(
                 threads,
                 lines.as_slice(),
                 property,
+                in_full,
                 &replayed,
                 out,
                 teller,
@@ -62,8 +65,8 @@ pub(crate) fn trace<A: Allocator + Copy, W: Write, E: Write>(
     }
 }
 
-/// Replays an order of a source's threads: the program, the schedule of the order, and what the replay leaves. What is
-/// wrong is told, and the error is then the exit status.
+/// Replays an order of a source's threads. Returns the program, the schedule of the order, and the result of the
+/// replay. The error is the exit status, and the reason is reported on standard error.
 fn traced<A: Allocator + Copy, E: Write>(
     alloc: A,
     text: &str,
@@ -87,7 +90,7 @@ fn traced<A: Allocator + Copy, E: Write>(
     }
 }
 
-/// The schedule of an order, if a function that is asked may be.
+/// The schedule of an order, unless the given function is not a property.
 fn lines_asked<A: Allocator + Copy, E: Write>(
     alloc: A,
     compiled: &Compiled<A>,
@@ -105,7 +108,7 @@ fn lines_asked<A: Allocator + Copy, E: Write>(
     }
 }
 
-/// The exit status with which it is told that a function may not be asked, if one is given that may not.
+/// The exit status if the given function is not a property. The reason is then reported on standard error.
 fn refuse_property<A: Allocator + Copy, E: Write>(
     alloc: A,
     compiled: &Compiled<A>,
@@ -120,7 +123,7 @@ fn refuse_property<A: Allocator + Copy, E: Write>(
     }
 }
 
-/// Tells where threads trapped, if lines are wanted.
+/// Reports where threads trapped, if lines are wanted.
 fn tell_traps<A: Allocator + Copy, E: Write>(
     alloc: A,
     text: &str,
@@ -141,6 +144,7 @@ fn print_trace<A: Allocator + Copy, W: Write, E: Write>(
     threads: u32,
     lines: &[Line],
     property: Option<&str>,
+    in_full: bool,
     replayed: &Replayed<A>,
     out: &mut W,
     teller: &mut Teller<'_, E>,
@@ -150,14 +154,25 @@ fn print_trace<A: Allocator + Copy, W: Write, E: Write>(
         (WritesPart (λ written. Unit {0})) result (W.contents out.old) (W.contents out.new) }
 {
     let stood = replayed.stood.as_slice();
-    match trace_of(alloc, text, compiled, threads, lines, property, stood) {
+    let form = form_of(teller.detail.format, in_full);
+    match trace_of(alloc, text, compiled, threads, lines, property, stood, form) {
         Some(written) => print_for_replay(written.as_slice(), replayed, out, teller),
         None => out_of_memory(teller.err),
     }
 }
 
-/// The trace of an order. There is none where memory was refused.
-fn trace_of<A: Allocator + Copy>(
+/// The form of the trace that is wanted.
+fn form_of(format: Format, in_full: bool) -> Form {
+    match format {
+        Format::Json => Form::Json,
+        Format::Plain | Format::Short | Format::Github => {
+            if in_full { Form::Full } else { Form::Table }
+        }
+    }
+}
+
+/// The trace of an order. There is none after an allocation failure.
+pub(crate) fn trace_of<A: Allocator + Copy>(
     alloc: A,
     text: &str,
     compiled: &Compiled<A>,
@@ -165,6 +180,7 @@ fn trace_of<A: Allocator + Copy>(
     lines: &[Line],
     property: Option<&str>,
     stood: &[Stood],
+    form: Form,
 ) -> Option<Vec<u8, A>> {
     let Ok(tokens) = lex(alloc, text) else {
         return None;
@@ -174,7 +190,7 @@ fn trace_of<A: Allocator + Copy>(
         tokens: tokens.as_slice(),
     };
     match turns_shown(alloc, &compiled.code, source, threads, lines) {
-        Ok(traced) => text_of_trace(alloc, compiled, source, &traced, property, stood).ok(),
+        Ok(traced) => text_of_trace(alloc, compiled, source, traced, property, stood, form).ok(),
         Err(_) => None,
     }
 }
@@ -184,80 +200,86 @@ fn text_of_trace<A: Allocator + Copy>(
     alloc: A,
     compiled: &Compiled<A>,
     source: Source<'_>,
-    traced: &Traced<A>,
+    traced: Traced<A>,
     property: Option<&str>,
     stood: &[Stood],
+    form: Form,
 ) -> Result<Vec<u8, A>, AllocError> {
-    let names = names_of(alloc, unit_of(&compiled.accepted))?;
-    let ends = ends_at(alloc, source, traced.ends.as_slice(), stood)?;
-    let mut written = trace_text(
-        alloc,
-        names.as_slice(),
-        traced.first.as_slice(),
-        traced.turns.as_slice(),
-        ends.as_slice(),
-    )?;
-    if let Some(name) = property {
-        push_reply(alloc, &mut written, compiled, name, traced.last.as_slice())?;
-    }
-    Ok(written)
+    let stands = stands_of(alloc, traced.ends.as_slice(), stood)?;
+    let asked = match property {
+        Some(name) => Some(Asked {
+            name,
+            says: words_of_reply(alloc, compiled, name, traced.last.as_slice())?,
+        }),
+        None => None,
+    };
+    let view = View {
+        source,
+        stands: stands.as_slice(),
+        asked,
+        form,
+    };
+    view_text(alloc, unit_of(&compiled.accepted), traced, view)
 }
 
-/// How threads are after the last turn, and where they stand.
-fn ends_at<A: Allocator + Copy>(
+/// The ends and the places of threads after the last turn.
+fn stands_of<A: Allocator + Copy>(
     alloc: A,
-    source: Source<'_>,
     ends: &[Status],
     stood: &[Stood],
-) -> Result<Items<ThreadAt<A>, A>, AllocError> {
-    let mut threads = Items::new(alloc);
+) -> Result<Vec<Standing, A>, AllocError> {
+    let mut stands = Vec::new(alloc);
     'threads: for number in 0..ends.len() {
-        let status = ends[number];
-        threads.push(ThreadAt {
-            status,
-            at: stands_at(alloc, source, status, stood.get(number))?,
+        let start = match stood.get(number) {
+            Some(Stood { at: Some(span), .. }) => Some(span.start),
+            _ => None,
+        };
+        stands.push(Standing {
+            status: ends[number],
+            start,
         })?;
     }
-    Ok(threads)
+    Ok(stands)
 }
 
-/// Words that tell where a thread stands: the transaction that it runs next, or where it trapped.
-fn stands_at<A: Allocator + Copy>(
+/// The words for the value of a function in a memory.
+fn words_of_reply<A: Allocator + Copy>(
     alloc: A,
-    source: Source<'_>,
-    status: Status,
-    stood: Option<&Stood>,
-) -> Result<Items<u8, A>, AllocError> {
-    let mut at = Vec::new(alloc);
-    if status == Status::Ended {
-        return Ok(Items::from_vec(at));
-    }
-    if let Some(Stood { at: Some(span), .. }) = stood {
-        at.extend_from_slice(b" at ")?;
-        push_place(&mut at, source.text, span.start)?;
-        if status == Status::Running {
-            at.extend_from_slice(b": ")?;
-            push_passage(&mut at, source, span.start)?;
-        }
-    }
-    Ok(Items::from_vec(at))
-}
-
-/// Adds what a function says of a memory.
-fn push_reply<A: Allocator + Copy>(
-    alloc: A,
-    to: &mut Vec<u8, A>,
     compiled: &Compiled<A>,
     name: &str,
     memory: &[u64],
-) -> Result<(), AllocError> {
+) -> Result<&'static str, AllocError> {
     let asked = asked_program(alloc, &compiled.accepted)?;
-    let words = match asked.reply(name, memory, MOST_TICKS)? {
-        Reply::Holds => ": holds\n",
-        Reply::Fails => ": fails\n",
-        Reply::Spent => ": takes more than 1000000 ticks\n",
+    Ok(match asked.reply(name, memory, MOST_TICKS)? {
+        Reply::Holds => "holds",
+        Reply::Fails => "fails",
+        Reply::Spent => "takes more than 1000000 ticks",
+    })
+}
+
+/// Reports an order and its trace. Reports nothing after an allocation failure, or if the turns make too many steps.
+pub(crate) fn tell_trace<A: Allocator + Copy, E: Write>(
+    alloc: A,
+    text: &str,
+    compiled: &Compiled<A>,
+    threads: u32,
+    one: &ReportedOrder<A>,
+    property: Option<&str>,
+    err: &mut E,
+) {
+    let order = one.order.as_slice();
+    let Some(lines) = lines_if_any(alloc, &compiled.code, threads, order) else {
+        return;
     };
-    to.extend_from_slice(b"property ")?;
-    to.extend_from_slice(name.as_bytes())?;
-    to.extend_from_slice(words.as_bytes())
+    let lines = lines.as_slice();
+    if let Ok(replayed) = replay_code(alloc, compiled, threads, lines) {
+        let stood = replayed.stood.as_slice();
+        let form = Form::Table;
+        if let Some(written) = trace_of(
+            alloc, text, compiled, threads, lines, property, stood, form,
+        ) {
+            write_order(order, err);
+            let _ = err.write_all(written.as_slice());
+        }
+    }
 }

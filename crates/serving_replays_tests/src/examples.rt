@@ -270,110 +270,137 @@ type Transcript = (
 fn first_transcripts() -> &'static [Transcript] {
     static ROWS: [Transcript; 18] = [
         (
+            "txc outcomes examples/properties/bank.c --threads any --always kept,covered",
+            b"// Three accounts, and threads that move money round: each moves 10 from its own to the next, twice, in one transaction.\nint account[3] = {20, 20, 20};\n\nint kept(void) {\n    int i, sum = 0;\n    for (i = 0; i < 3; i++) sum = sum + account[i];\n    return sum == 60;\n}\n\nint covered(void) { return account[0] >= 0 && account[1] >= 0 && account[2] >= 0; }\n\nvoid worker(int self) {\n    int i, from = self % 3, to = (self + 1) % 3;\n    for (i = 0; i < 2; i++) {\n        __transaction_atomic {\n            if (account[from] >= 10) {\n                account[from] = account[from] - 10;\n                account[to] = account[to] + 10;\n            }\n        }\n    }\n}\n\n// txc: --threads 2..3 --always kept,covered\n",
+            b"",
+            b"",
+            b"== always kept: 1 to 64 threads, nodes 28\n== always covered: 1 to 64 threads, nodes 28\n",
+        ),
+        (
+            "txc outcomes examples/properties/fifth.c --threads any --always whole",
+            b"// Each thread takes a number, and the fifth one breaks the property: four threads never do.\nint at, broken;\n\nint whole(void) { return broken == 0; }\n\nvoid worker(int self) {\n    int mine;\n    __transaction_atomic { mine = at; at = (at + 1) % 8; }\n    if (mine == 4) __transaction_atomic { broken = 1; }\n}\n",
+            b"",
+            b"",
+            b"== not whole --threads 5 --order 0,1,2,3,4,4\n== thread 0: ended\n== thread 1: ended\n== thread 2: ended\n== thread 3: ended\n== thread 4: ended\n== memory\nat = 5\nbroken = 1\n",
+        ),
+        (
+            "txc outcomes examples/properties/readers.c --threads any --always apart",
+            b"// Up to three readers, or one writer. Even threads read, and odd ones write.\nint readers, writing, reading_now, writing_now;\n\nint apart(void) { return writing_now <= 1 && (writing_now == 0 || reading_now == 0); }\n\nvoid worker(int self) {\n    int writes = self % 2, go;\n    while (1) {\n        go = 0;\n        if (writes) {\n            while (!go) { __transaction_atomic { go = !writing && readers == 0; if (go) writing = 1; } }\n            __transaction_atomic { writing_now = writing_now + 1; }\n            __transaction_atomic { writing_now = writing_now - 1; }\n            __transaction_atomic { writing = 0; }\n        } else {\n            while (!go) { __transaction_atomic { go = !writing && readers < 3; if (go) readers = readers + 1; } }\n            __transaction_atomic { reading_now = reading_now + 1; }\n            __transaction_atomic { reading_now = reading_now - 1; }\n            __transaction_atomic { readers = readers - 1; }\n        }\n    }\n}\n",
+            b"",
+            b"",
+            b"== always apart: 1 to 64 threads, nodes 23\n",
+        ),
+        (
             "txc outcomes examples/properties/average.c --threads 2 --always average_is_small,comes_to_an_end --steps 1000",
-            b"// A property may trap, for example by a division by 0, or may never end.\nint sum, count, steps = 1;\n\nint average_is_small(void) { return sum / count < 10; }\n\nint comes_to_an_end(void) {\n    int i = 0;\n    while (i != count * 2) i = i + 2 * steps;\n    return 1;\n}\n\nvoid worker(int self) {\n    __transaction_atomic { sum = sum + self; }\n    __transaction_atomic { count = count + 1; }\n    __transaction_atomic { steps = 0; }\n}\n",
+            b"// A property may trap, for example by a division by 0, or may never end.\nint sum, count, steps = 1;\n\nint average_is_small(void) { return sum / count < 10; }\n\nint comes_to_an_end(void) {\n    int i = 0;\n    while (i != count * 2) i = i + 2 * steps;\n    return 1;\n}\n\nvoid worker(int self) {\n    __transaction_atomic { sum = sum + self; }\n    __transaction_atomic { count = count + 1; }\n    __transaction_atomic { steps = 0; }\n}\n\n// txc: --threads 2 --always average_is_small,comes_to_an_end --steps 1000 (fails)\n",
             b"",
             b"",
-            b"== not average_is_small --order ''\n== thread 0: waits\n== thread 1: waits\n== memory\nsum = 0\ncount = 0\nsteps = 1\n== spent comes_to_an_end --order 0,0,0\n== thread 0: ended\n== thread 1: waits\n== memory\nsum = 0\ncount = 1\nsteps = 0\ntxc: each property has its answer, so the search stopped; --keep-going continues it\n",
+            b"== not average_is_small --order ''\n== thread 0: waits\n== thread 1: waits\n== memory\nsum = 0\ncount = 0\nsteps = 1\n== spent comes_to_an_end --order 0,0,0\n== thread 0: ended\n== thread 1: waits\n== memory\nsum = 0\ncount = 1\nsteps = 0\ntxc: each property has its answer, so the search stopped; --keep-going continues it\ntxc: with --order ''\nturn thread at\nthread 0: next at 13:5: sum = sum + self\nthread 1: next at 13:5: sum = sum + self\nproperty average_is_small: fails: sum = 0, count = 0\n",
         ),
         (
             "txc outcomes examples/properties/bank.c --threads 3 --always kept,covered",
-            b"// Three accounts, and threads that move money round: each moves 10 from its own to the next, twice, in one transaction.\nint account[3] = {20, 20, 20};\n\nint kept(void) {\n    int i, sum = 0;\n    for (i = 0; i < 3; i++) sum = sum + account[i];\n    return sum == 60;\n}\n\nint covered(void) { return account[0] >= 0 && account[1] >= 0 && account[2] >= 0; }\n\nvoid worker(int self) {\n    int i, from = self % 3, to = (self + 1) % 3;\n    for (i = 0; i < 2; i++) {\n        __transaction_atomic {\n            if (account[from] >= 10) {\n                account[from] = account[from] - 10;\n                account[to] = account[to] + 10;\n            }\n        }\n    }\n}\n",
+            b"// Three accounts, and threads that move money round: each moves 10 from its own to the next, twice, in one transaction.\nint account[3] = {20, 20, 20};\n\nint kept(void) {\n    int i, sum = 0;\n    for (i = 0; i < 3; i++) sum = sum + account[i];\n    return sum == 60;\n}\n\nint covered(void) { return account[0] >= 0 && account[1] >= 0 && account[2] >= 0; }\n\nvoid worker(int self) {\n    int i, from = self % 3, to = (self + 1) % 3;\n    for (i = 0; i < 2; i++) {\n        __transaction_atomic {\n            if (account[from] >= 10) {\n                account[from] = account[from] - 10;\n                account[to] = account[to] + 10;\n            }\n        }\n    }\n}\n\n// txc: --threads 2..3 --always kept,covered\n",
             b"",
             b"",
             b"== always kept: states 27, threads: 3\n== always covered: states 27, threads: 3\n",
         ),
         (
             "txc outcomes examples/properties/bank_broken.c --threads 2 --final kept --always kept",
-            b"// Money leaves one account in one transaction and enters the next one in another: in between it is missing.\nint account[3] = {20, 20, 20};\n\nint kept(void) {\n    int i, sum = 0;\n    for (i = 0; i < 3; i++) sum = sum + account[i];\n    return sum == 60;\n}\n\nvoid worker(int self) {\n    int i, free, from = self % 3, to = (self + 1) % 3;\n    for (i = 0; i < 2; i++) {\n        __transaction_atomic { free = account[from] >= 10; if (free) account[from] = account[from] - 10; }\n        if (free) __transaction_atomic { account[to] = account[to] + 10; }\n    }\n}\n",
+            b"// Money leaves one account in one transaction and enters the next one in another: in between it is missing.\nint account[3] = {20, 20, 20};\n\nint kept(void) {\n    int i, sum = 0;\n    for (i = 0; i < 3; i++) sum = sum + account[i];\n    return sum == 60;\n}\n\nvoid worker(int self) {\n    int i, free, from = self % 3, to = (self + 1) % 3;\n    for (i = 0; i < 2; i++) {\n        __transaction_atomic { free = account[from] >= 10; if (free) account[from] = account[from] - 10; }\n        if (free) __transaction_atomic { account[to] = account[to] + 10; }\n    }\n}\n\n// txc: --threads 2 --final kept\n// txc: --threads 2 --always kept (fails)\n",
             b"",
             b"",
-            b"== not kept --order 0\n== thread 0: waits\n== thread 1: waits\n== memory\naccount = 10 20 20\n== final kept: outcomes 1, threads: 2\n",
+            b"== not kept --order 0\n== thread 0: waits\n== thread 1: waits\n== memory\naccount = 10 20 20\n== final kept: outcomes 1, threads: 2\ntxc: with --order 0\nturn thread at     account[0]\n                           20\n   1      0 13:9          >10   free = account[from] >= 10; if (free) ..\nthread 0: next at 14:19: account[to] = account[to] + 10\nthread 1: next at 13:9: free = account[from] >= 10; if (free) ..\nproperty kept: fails: account = 10 20 20\n",
         ),
         (
             "txc outcomes examples/properties/lock.c --threads 3 --always alone",
-            b"// A lock made of transactions: one transaction tests it and takes it. Inside, a thread counts itself in and out.\nint taken, inside, entered;\n\nint alone(void) { return inside <= 1; }\n\nvoid worker(int self) {\n    int mine = 0;\n    while (!mine) {\n        __transaction_atomic { mine = !taken; if (mine) taken = 1; }\n    }\n    __transaction_atomic { inside = inside + 1; }\n    __transaction_atomic { inside = inside - 1; entered = entered + 1; }\n    __transaction_atomic { taken = 0; }\n}\n",
+            b"// A lock made of transactions: one transaction tests it and takes it. Inside, a thread counts itself in and out.\nint taken, inside, entered;\n\nint alone(void) { return inside <= 1; }\n\nvoid worker(int self) {\n    int mine = 0;\n    while (!mine) {\n        __transaction_atomic { mine = !taken; if (mine) taken = 1; }\n    }\n    __transaction_atomic { inside = inside + 1; }\n    __transaction_atomic { inside = inside - 1; entered = entered + 1; }\n    __transaction_atomic { taken = 0; }\n}\n\n// txc: --threads 2..4 --always alone\n",
             b"",
             b"",
             b"== always alone: states 44, threads: 3\n",
         ),
         (
             "txc outcomes examples/properties/lock_broken.c --threads 2 --always alone",
-            b"// A lock that is tested in one transaction and taken in the next: two threads may find it free.\nint taken, inside, entered;\n\nint alone(void) { return inside <= 1; }\n\nvoid worker(int self) {\n    int mine = 0;\n    while (!mine) {\n        __transaction_atomic { mine = !taken; }\n    }\n    __transaction_atomic { taken = 1; }\n    __transaction_atomic { inside = inside + 1; }\n    __transaction_atomic { inside = inside - 1; entered = entered + 1; }\n    __transaction_atomic { taken = 0; }\n}\n",
+            b"// A lock that is tested in one transaction and taken in the next: two threads may find it free.\nint taken, inside, entered;\n\nint alone(void) { return inside <= 1; }\n\nvoid worker(int self) {\n    int mine = 0;\n    while (!mine) {\n        __transaction_atomic { mine = !taken; }\n    }\n    __transaction_atomic { taken = 1; }\n    __transaction_atomic { inside = inside + 1; }\n    __transaction_atomic { inside = inside - 1; entered = entered + 1; }\n    __transaction_atomic { taken = 0; }\n}\n\n// txc: --threads 2 --always alone (fails)\n",
             b"",
             b"",
-            b"== not alone --order 0,1,0,0,1,1\n== thread 0: waits\n== thread 1: waits\n== memory\ntaken = 1\ninside = 2\nentered = 0\ntxc: each property has its answer, so the search stopped; --keep-going continues it\n",
+            b"== not alone --order 0,1,0,0,1,1\n== thread 0: waits\n== thread 1: waits\n== memory\ntaken = 1\ninside = 2\nentered = 0\ntxc: each property has its answer, so the search stopped; --keep-going continues it\ntxc: with --order 0,1,0,0,1,1\nturn thread at     taken inside\n                       0      0\n   1      0 9:9        0      .   mine = !taken\n   2      1 9:9        0      .   mine = !taken\n   3      0 11:5      >1      .   taken = 1\n   4      0 12:5       .     >1   inside = inside + 1\n   5      1 11:5      >1      .   taken = 1\n   6      1 12:5       .     >2   inside = inside + 1\nthread 0: next at 13:5: inside = inside - 1; entered = entered + ..\nthread 1: next at 13:5: inside = inside - 1; entered = entered + ..\nproperty alone: fails: inside = 2\n",
         ),
         (
             "txc outcomes examples/properties/lock.c --threads 2..4 --always alone",
-            b"// A lock made of transactions: one transaction tests it and takes it. Inside, a thread counts itself in and out.\nint taken, inside, entered;\n\nint alone(void) { return inside <= 1; }\n\nvoid worker(int self) {\n    int mine = 0;\n    while (!mine) {\n        __transaction_atomic { mine = !taken; if (mine) taken = 1; }\n    }\n    __transaction_atomic { inside = inside + 1; }\n    __transaction_atomic { inside = inside - 1; entered = entered + 1; }\n    __transaction_atomic { taken = 0; }\n}\n",
+            b"// A lock made of transactions: one transaction tests it and takes it. Inside, a thread counts itself in and out.\nint taken, inside, entered;\n\nint alone(void) { return inside <= 1; }\n\nvoid worker(int self) {\n    int mine = 0;\n    while (!mine) {\n        __transaction_atomic { mine = !taken; if (mine) taken = 1; }\n    }\n    __transaction_atomic { inside = inside + 1; }\n    __transaction_atomic { inside = inside - 1; entered = entered + 1; }\n    __transaction_atomic { taken = 0; }\n}\n\n// txc: --threads 2..4 --always alone\n",
             b"",
             b"",
             b"== always alone: states 16, threads: 2\n== always alone: states 44, threads: 3\n== always alone: states 112, threads: 4\n",
         ),
         (
             "txc outcomes examples/properties/philosophers.c --threads 3 --always neighbours_wait",
-            b"// Philosophers, each with a fork to the left and one to the right, who take both in one transaction and put both back.\nint taken[3], eating[3], meals;\n\nint neighbours_wait(void) {\n    return !(eating[0] && eating[1]) && !(eating[1] && eating[2]) && !(eating[2] && eating[0]);\n}\n\nvoid worker(int self) {\n    int mine = 0, left = self % 3, right = (self + 1) % 3;\n    while (!mine) {\n        __transaction_atomic {\n            mine = !taken[left] && !taken[right];\n            if (mine) { taken[left] = 1; taken[right] = 1; }\n        }\n    }\n    __transaction_atomic { eating[left] = 1; }\n    __transaction_atomic { eating[left] = 0; meals = meals + 1; }\n    __transaction_atomic { taken[left] = 0; taken[right] = 0; }\n}\n",
+            b"// Philosophers, each with a fork to the left and one to the right, who take both in one transaction and put both back.\nint taken[3], eating[3], meals;\n\nint neighbours_wait(void) {\n    return !(eating[0] && eating[1]) && !(eating[1] && eating[2]) && !(eating[2] && eating[0]);\n}\n\nvoid worker(int self) {\n    int mine = 0, left = self % 3, right = (self + 1) % 3;\n    while (!mine) {\n        __transaction_atomic {\n            mine = !taken[left] && !taken[right];\n            if (mine) { taken[left] = 1; taken[right] = 1; }\n        }\n    }\n    __transaction_atomic { eating[left] = 1; }\n    __transaction_atomic { eating[left] = 0; meals = meals + 1; }\n    __transaction_atomic { taken[left] = 0; taken[right] = 0; }\n}\n\n// txc: --threads 2..3 --always neighbours_wait\n",
             b"",
             b"",
             b"== always neighbours_wait: states 44, threads: 3\n",
         ),
         (
             "txc outcomes examples/properties/philosophers_broken.c --threads 3 --always neighbours_wait",
-            b"// Philosophers who take the left fork in one transaction and the right one in the next: each may hold one and wait.\nint taken[3], eating[3], meals;\n\nint neighbours_wait(void) {\n    return !(eating[0] && eating[1]) && !(eating[1] && eating[2]) && !(eating[2] && eating[0]);\n}\n\nvoid take(int fork) {\n    int mine = 0;\n    while (!mine) {\n        __transaction_atomic { mine = !taken[fork]; if (mine) taken[fork] = 1; }\n    }\n}\n\nvoid worker(int self) {\n    int left = self % 3, right = (self + 1) % 3;\n    take(left);\n    take(right);\n    __transaction_atomic { eating[left] = 1; }\n    __transaction_atomic { eating[left] = 0; meals = meals + 1; }\n    __transaction_atomic { taken[left] = 0; taken[right] = 0; }\n}\n",
+            b"// Philosophers who take the left fork in one transaction and the right one in the next: each may hold one and wait.\nint taken[3], eating[3], meals;\n\nint neighbours_wait(void) {\n    return !(eating[0] && eating[1]) && !(eating[1] && eating[2]) && !(eating[2] && eating[0]);\n}\n\nvoid take(int fork) {\n    int mine = 0;\n    while (!mine) {\n        __transaction_atomic { mine = !taken[fork]; if (mine) taken[fork] = 1; }\n    }\n}\n\nvoid worker(int self) {\n    int left = self % 3, right = (self + 1) % 3;\n    take(left);\n    take(right);\n    __transaction_atomic { eating[left] = 1; }\n    __transaction_atomic { eating[left] = 0; meals = meals + 1; }\n    __transaction_atomic { taken[left] = 0; taken[right] = 0; }\n}\n\n// txc: --threads 2 --always neighbours_wait\n// txc: --threads 3 --always neighbours_wait (stuck)\n",
             b"",
             b"",
-            b"== always neighbours_wait: states 81, threads: 3\n== stuck --order 0,1,2\n== thread 0: waits\n== thread 1: waits\n== thread 2: waits\n== memory\ntaken = 1 1 1\neating = 0 0 0\nmeals = 0\ntxc: with --order 0,1,2\ntxc: thread 0: waits at 11:9\n        __transaction_atomic { mine = !taken[fork]; if (mine) taken[fork] = 1; }\n        ^^^^^^^^^^^^^^^^^^^^\ntxc: thread 1: waits at 11:9\ntxc: thread 2: waits at 11:9\n",
+            b"== always neighbours_wait: states 81, threads: 3\n== stuck --order 0,1,2\n== thread 0: waits\n== thread 1: waits\n== thread 2: waits\n== memory\ntaken = 1 1 1\neating = 0 0 0\nmeals = 0\ntxc: with --order 0,1,2\ntxc: thread 0: waits at 11:9\n        __transaction_atomic { mine = !taken[fork]; if (mine) taken[fork] = 1; }\n        ^^^^^^^^^^^^^^^^^^^^\ntxc: thread 1: waits at 11:9\ntxc: thread 2: waits at 11:9\ntxc: with --order 0,1,2\nturn thread at     taken[0] taken[1] taken[2]\n                          0        0        0\n   1      0 11:9         >1        .        .   mine = !taken[fork]; if (mine) taken[ ..\n   2      1 11:9          .       >1        .   mine = !taken[fork]; if (mine) taken[ ..\n   3      2 11:9          .        .       >1   mine = !taken[fork]; if (mine) taken[ ..\nthread 0: next at 11:9: mine = !taken[fork]; if (mine) taken[ ..\nthread 1: next at 11:9: mine = !taken[fork]; if (mine) taken[ ..\nthread 2: next at 11:9: mine = !taken[fork]; if (mine) taken[ ..\n",
         ),
         (
             "txc outcomes examples/properties/queue.c --threads 4 --always within --final all_taken",
-            b"// A queue of two places: even threads put in three numbers, odd ones take three. Threads wait for a place or a number.\nint slots[2], head, count, sum;\n\nint within(void) { return count >= 0 && count <= 2; }\nint all_taken(void) { return count == 0 && sum % 6 == 0; }\n\nvoid worker(int self) {\n    int i, done;\n    for (i = 1; i <= 3; i++) {\n        do {\n            __transaction_atomic {\n                if (self % 2 == 0) {\n                    done = count < 2;\n                    if (done) { slots[(head + count) % 2] = i; count = count + 1; }\n                } else {\n                    done = count > 0;\n                    if (done) { sum = sum + slots[head]; head = (head + 1) % 2; count = count - 1; }\n                }\n            }\n        } while (!done);\n    }\n}\n",
+            b"// A queue of two places: even threads put in three numbers, odd ones take three. Threads wait for a place or a number.\nint slots[2], head, count, sum;\n\nint within(void) { return count >= 0 && count <= 2; }\nint all_taken(void) { return count == 0 && sum % 6 == 0; }\n\nvoid worker(int self) {\n    int i, done;\n    for (i = 1; i <= 3; i++) {\n        do {\n            __transaction_atomic {\n                if (self % 2 == 0) {\n                    done = count < 2;\n                    if (done) { slots[(head + count) % 2] = i; count = count + 1; }\n                } else {\n                    done = count > 0;\n                    if (done) { sum = sum + slots[head]; head = (head + 1) % 2; count = count - 1; }\n                }\n            }\n        } while (!done);\n    }\n}\n\n// txc: --threads 2 --always within --final all_taken\n// txc: --threads 4 --always within --final all_taken\n",
             b"",
             b"",
             b"== always within: states 225, threads: 4\n== final all_taken: outcomes 2, threads: 4\n",
         ),
         (
             "txc outcomes examples/properties/queue_broken.c --threads 2 --always within",
-            b"// One transaction checks for a free place and the next one fills it: two threads may fill the last one.\nint slots[2], head, count, sum;\n\nint within(void) { return count >= 0 && count <= 2; }\n\nvoid worker(int self) {\n    int i, done;\n    for (i = 1; i <= 2; i++) {\n        __transaction_atomic { done = count < 2; }\n        if (done) {\n            __transaction_atomic { slots[(head + count) % 2] = i; count = count + 1; }\n        }\n    }\n    __transaction_atomic {\n        if (count > 0) { sum = sum + slots[head]; head = (head + 1) % 2; count = count - 1; }\n    }\n}\n",
+            b"// One transaction checks for a free place and the next one fills it: two threads may fill the last one.\nint slots[2], head, count, sum;\n\nint within(void) { return count >= 0 && count <= 2; }\n\nvoid worker(int self) {\n    int i, done;\n    for (i = 1; i <= 2; i++) {\n        __transaction_atomic { done = count < 2; }\n        if (done) {\n            __transaction_atomic { slots[(head + count) % 2] = i; count = count + 1; }\n        }\n    }\n    __transaction_atomic {\n        if (count > 0) { sum = sum + slots[head]; head = (head + 1) % 2; count = count - 1; }\n    }\n}\n\n// txc: --threads 2..3 --always within (fails)\n",
             b"",
             b"",
-            b"== not within --order 0,0,0,1,0,1\n== thread 0: waits\n== thread 1: waits\n== memory\nslots = 1 2\nhead = 0\ncount = 3\nsum = 0\ntxc: each property has its answer, so the search stopped; --keep-going continues it\n",
+            b"== not within --order 0,0,0,1,0,1\n== thread 0: waits\n== thread 1: waits\n== memory\nslots = 1 2\nhead = 0\ncount = 3\nsum = 0\ntxc: each property has its answer, so the search stopped; --keep-going continues it\ntxc: with --order 0,0,0,1,0,1\nturn thread at     slots[0] slots[1] head count\n                          0        0    0     0\n   1      0 9:9           .        .    .     0   done = count < 2\n   2      0 11:13        >1        .    0    >1   slots[(head + count) % 2] = i; count = ..\n   3      0 9:9           .        .    .     1   done = count < 2\n   4      1 9:9           .        .    .     1   done = count < 2\n   5      0 11:13         .       >2    0    >2   slots[(head + count) % 2] = i; count = ..\n   6      1 11:13        >1        .    0    >3   slots[(head + count) % 2] = i; count = ..\nthread 0: next at 14:5: if (count > 0) { sum = sum + slots[head ..\nthread 1: next at 9:9: done = count < 2\nproperty within: fails: count = 3\n",
         ),
         (
             "txc outcomes examples/properties/lock.c --always alone,free",
-            b"// A lock made of transactions: one transaction tests it and takes it. Inside, a thread counts itself in and out.\nint taken, inside, entered;\n\nint alone(void) { return inside <= 1; }\n\nvoid worker(int self) {\n    int mine = 0;\n    while (!mine) {\n        __transaction_atomic { mine = !taken; if (mine) taken = 1; }\n    }\n    __transaction_atomic { inside = inside + 1; }\n    __transaction_atomic { inside = inside - 1; entered = entered + 1; }\n    __transaction_atomic { taken = 0; }\n}\n",
+            b"// A lock made of transactions: one transaction tests it and takes it. Inside, a thread counts itself in and out.\nint taken, inside, entered;\n\nint alone(void) { return inside <= 1; }\n\nvoid worker(int self) {\n    int mine = 0;\n    while (!mine) {\n        __transaction_atomic { mine = !taken; if (mine) taken = 1; }\n    }\n    __transaction_atomic { inside = inside + 1; }\n    __transaction_atomic { inside = inside - 1; entered = entered + 1; }\n    __transaction_atomic { taken = 0; }\n}\n\n// txc: --threads 2..4 --always alone\n",
             b"",
             b"",
             b"txc: usage: --always free: no function of the file\n",
         ),
         (
             "txc outcomes examples/properties/seats.c --threads 4 --always no_seat_twice",
-            b"// Two seats, and buyers who check and buy in one transaction: no seat is sold twice.\nint seats = 2, buyer[2] = {-1, -1}, sold;\n\nint no_seat_twice(void) { return sold + seats == 2 && seats >= 0; }\n\nvoid worker(int self) {\n    __transaction_atomic {\n        if (seats > 0) {\n            seats = seats - 1;\n            buyer[seats] = self;\n            sold = sold + 1;\n        }\n    }\n}\n",
+            b"// Two seats, and buyers who check and buy in one transaction: no seat is sold twice.\nint seats = 2, buyer[2] = {-1, -1}, sold;\n\nint no_seat_twice(void) { return sold + seats == 2 && seats >= 0; }\n\nvoid worker(int self) {\n    __transaction_atomic {\n        if (seats > 0) {\n            seats = seats - 1;\n            buyer[seats] = self;\n            sold = sold + 1;\n        }\n    }\n}\n\n// txc: --threads 2..4 --always no_seat_twice\n",
             b"",
             b"",
             b"== always no_seat_twice: states 53, threads: 4\n",
         ),
         (
             "txc outcomes examples/properties/seats_broken.c --threads 3 --always no_seat_twice",
-            b"// Two seats, and buyers who check in one transaction and buy in the next: three of them can buy three seats.\nint seats = 2, sold;\n\nint no_seat_twice(void) { return sold + seats == 2 && seats >= 0; }\n\nvoid worker(int self) {\n    int free;\n    __transaction_atomic { free = seats > 0; }\n    if (free) {\n        __transaction_atomic {\n            seats = seats - 1;\n            sold = sold + 1;\n        }\n    }\n}\n",
+            b"// Two seats, and buyers who check in one transaction and buy in the next: three of them can buy three seats.\nint seats = 2, sold;\n\nint no_seat_twice(void) { return sold + seats == 2 && seats >= 0; }\n\nvoid worker(int self) {\n    int free;\n    __transaction_atomic { free = seats > 0; }\n    if (free) {\n        __transaction_atomic {\n            seats = seats - 1;\n            sold = sold + 1;\n        }\n    }\n}\n\n// txc: --threads 2 --always no_seat_twice\n// txc: --threads 3 --always no_seat_twice (fails)\n",
             b"",
             b"",
-            b"== not no_seat_twice --order 0,0,1,2,1,2\n== thread 0: ended\n== thread 1: ended\n== thread 2: ended\n== memory\nseats = -1\nsold = 3\ntxc: each property has its answer, so the search stopped; --keep-going continues it\n",
+            b"== not no_seat_twice --order 0,0,1,2,1,2\n== thread 0: ended\n== thread 1: ended\n== thread 2: ended\n== memory\nseats = -1\nsold = 3\ntxc: each property has its answer, so the search stopped; --keep-going continues it\ntxc: with --order 0,0,1,2,1,2\nturn thread at     seats sold\n                       2    0\n   1      0 8:5        2    .   free = seats > 0\n   2      0 10:9      >1   >1   seats = seats - 1; sold = sold + 1  ended\n   3      1 8:5        1    .   free = seats > 0\n   4      2 8:5        1    .   free = seats > 0\n   5      1 10:9      >0   >2   seats = seats - 1; sold = sold + 1  ended\n   6      2 10:9     >-1   >3   seats = seats - 1; sold = sold + 1  ended\nthread 0: ended\nthread 1: ended\nthread 2: ended\nproperty no_seat_twice: fails: seats = -1, sold = 3\n",
         ),
         (
             "txc outcomes examples/properties/seats_broken.c --threads 2 --always no_seat_twice",
-            b"// Two seats, and buyers who check in one transaction and buy in the next: three of them can buy three seats.\nint seats = 2, sold;\n\nint no_seat_twice(void) { return sold + seats == 2 && seats >= 0; }\n\nvoid worker(int self) {\n    int free;\n    __transaction_atomic { free = seats > 0; }\n    if (free) {\n        __transaction_atomic {\n            seats = seats - 1;\n            sold = sold + 1;\n        }\n    }\n}\n",
+            b"// Two seats, and buyers who check in one transaction and buy in the next: three of them can buy three seats.\nint seats = 2, sold;\n\nint no_seat_twice(void) { return sold + seats == 2 && seats >= 0; }\n\nvoid worker(int self) {\n    int free;\n    __transaction_atomic { free = seats > 0; }\n    if (free) {\n        __transaction_atomic {\n            seats = seats - 1;\n            sold = sold + 1;\n        }\n    }\n}\n\n// txc: --threads 2 --always no_seat_twice\n// txc: --threads 3 --always no_seat_twice (fails)\n",
             b"",
             b"",
             b"== always no_seat_twice: states 9, threads: 2\n",
         ),
         (
             "txc outcomes examples/properties/seats_broken.c --threads 2..4 --always no_seat_twice",
-            b"// Two seats, and buyers who check in one transaction and buy in the next: three of them can buy three seats.\nint seats = 2, sold;\n\nint no_seat_twice(void) { return sold + seats == 2 && seats >= 0; }\n\nvoid worker(int self) {\n    int free;\n    __transaction_atomic { free = seats > 0; }\n    if (free) {\n        __transaction_atomic {\n            seats = seats - 1;\n            sold = sold + 1;\n        }\n    }\n}\n",
+            b"// Two seats, and buyers who check in one transaction and buy in the next: three of them can buy three seats.\nint seats = 2, sold;\n\nint no_seat_twice(void) { return sold + seats == 2 && seats >= 0; }\n\nvoid worker(int self) {\n    int free;\n    __transaction_atomic { free = seats > 0; }\n    if (free) {\n        __transaction_atomic {\n            seats = seats - 1;\n            sold = sold + 1;\n        }\n    }\n}\n\n// txc: --threads 2 --always no_seat_twice\n// txc: --threads 3 --always no_seat_twice (fails)\n",
             b"",
             b"",
-            b"== always no_seat_twice: states 9, threads: 2\n== not no_seat_twice --order 0,0,1,2,1,2\n== thread 0: ended\n== thread 1: ended\n== thread 2: ended\n== memory\nseats = -1\nsold = 3\ntxc: each property has its answer, so the search stopped; --keep-going continues it\n",
+            b"== always no_seat_twice: states 9, threads: 2\n== not no_seat_twice --order 0,0,1,2,1,2\n== thread 0: ended\n== thread 1: ended\n== thread 2: ended\n== memory\nseats = -1\nsold = 3\ntxc: each property has its answer, so the search stopped; --keep-going continues it\ntxc: with --order 0,0,1,2,1,2\nturn thread at     seats sold\n                       2    0\n   1      0 8:5        2    .   free = seats > 0\n   2      0 10:9      >1   >1   seats = seats - 1; sold = sold + 1  ended\n   3      1 8:5        1    .   free = seats > 0\n   4      2 8:5        1    .   free = seats > 0\n   5      1 10:9      >0   >2   seats = seats - 1; sold = sold + 1  ended\n   6      2 10:9     >-1   >3   seats = seats - 1; sold = sold + 1  ended\nthread 0: ended\nthread 1: ended\nthread 2: ended\nproperty no_seat_twice: fails: seats = -1, sold = 3\n",
         ),
+    ];
+    &ROWS
+}
+
+fn second_transcripts() -> &'static [Transcript] {
+    static ROWS: [Transcript; 18] = [
         (
             "txc certify examples/hashset.c --threads 2 --order-file examples/orders/hashset.txt --report examples/orders/hashset.out",
             b"// A set of numbers in a table of 16 places, without a lock of its own: each insertion is one step.\nint place[16], count;\n\nint insert(int key) {\n    int at = key * 7 & 15, added = 0;\n    __transaction_atomic {\n        while (place[at] != 0 && place[at] != key) at = at + 1 & 15;\n        if (place[at] == 0) {\n            place[at] = key;\n            count = count + 1;\n            added = 1;\n        }\n    }\n    return added;\n}\n\nvoid worker(int self) {\n    int i, added = 0;\n    for (i = 1; i <= 4; i++) added = added + insert(i * (self + 1));\n    printf(\"%d added\\n\", added);\n}\n",
@@ -395,12 +422,6 @@ fn first_transcripts() -> &'static [Transcript] {
             b"",
             b"accepted\n",
         ),
-    ];
-    &ROWS
-}
-
-fn second_transcripts() -> &'static [Transcript] {
-    static ROWS: [Transcript; 18] = [
         (
             "txc check examples/refused/bare.c",
             b"int x;\nvoid worker(int self) { x = 1; }\n",
@@ -506,6 +527,12 @@ fn second_transcripts() -> &'static [Transcript] {
             b"",
             b"trap 3: an index outside its array\nWhen: an index of a read or write is negative, or not below the array's length\nExample: `int a[5];` and `a[5] = 1;` in a transaction\n",
         ),
+    ];
+    &ROWS
+}
+
+fn third_transcripts() -> &'static [Transcript] {
+    static ROWS: [Transcript; 18] = [
         (
             "txc listing examples/first.c",
             b"int x = 40, y; void worker(int self) { __transaction_atomic { x = x + 2; y = x - 1; } }\n",
@@ -527,12 +554,6 @@ fn second_transcripts() -> &'static [Transcript] {
             b"",
             b"== outcome --order 0,0,1\n== thread 0: ended\n== thread 1: ended\n160\n== memory\nchecking = 70\nsavings = 90\n== outcome --order 0,1,0\n== thread 0: ended\n== thread 1: ended\n110\n== memory\nchecking = 70\nsavings = 90\n== outcomes: 2, stuck: 0, states: 8, threads: 2\n",
         ),
-    ];
-    &ROWS
-}
-
-fn third_transcripts() -> &'static [Transcript] {
-    static ROWS: [Transcript; 18] = [
         (
             "txc outcomes examples/audit_mended.c --threads 2",
             b"// Thread 0 moves 50 in one transaction, so thread 1 always finds all of the money.\nint checking = 120, savings = 40;\n\nvoid worker(int self) {\n    int total;\n    if (self == 0) {\n        __transaction_atomic {\n            checking = checking - 50;\n            savings = savings + 50;\n        }\n    } else {\n        __transaction_atomic { total = checking + savings; }\n        printf(\"%d\\n\", total);\n    }\n}\n",
@@ -552,7 +573,7 @@ fn third_transcripts() -> &'static [Transcript] {
             b"// Two locks, which the threads take in opposite orders: each can hold one and wait for the other.\nint locked[2], done;\n\nvoid take(int which) {\n    int mine = 0;\n    while (!mine) {\n        __transaction_atomic { mine = !locked[which]; if (mine) locked[which] = 1; }\n    }\n}\n\nvoid worker(int self) {\n    take(self);\n    take(1 - self);\n    __transaction_atomic { done = done + 1; locked[0] = 0; locked[1] = 0; }\n}\n",
             b"",
             b"",
-            b"== outcome --order 0,0,0,1,1,1\n== thread 0: ended\n== thread 1: ended\n== memory\nlocked = 0 0\ndone = 2\n== stuck --order 0,1\n== thread 0: waits\n== thread 1: waits\n== memory\nlocked = 1 1\ndone = 0\n== outcomes: 1, stuck: 1, states: 13, threads: 2\ntxc: with --order 0,1\ntxc: thread 0: waits at 7:9\n        __transaction_atomic { mine = !locked[which]; if (mine) locked[which] = 1; }\n        ^^^^^^^^^^^^^^^^^^^^\ntxc: thread 1: waits at 7:9\n",
+            b"== outcome --order 0,0,0,1,1,1\n== thread 0: ended\n== thread 1: ended\n== memory\nlocked = 0 0\ndone = 2\n== stuck --order 0,1\n== thread 0: waits\n== thread 1: waits\n== memory\nlocked = 1 1\ndone = 0\n== outcomes: 1, stuck: 1, states: 13, threads: 2\ntxc: with --order 0,1\ntxc: thread 0: waits at 7:9\n        __transaction_atomic { mine = !locked[which]; if (mine) locked[which] = 1; }\n        ^^^^^^^^^^^^^^^^^^^^\ntxc: thread 1: waits at 7:9\ntxc: with --order 0,1\nturn thread at     locked[0] locked[1]\n                           0         0\n   1      0 7:9           >1         .   mine = !locked[which]; if (mine) locked ..\n   2      1 7:9            .        >1   mine = !locked[which]; if (mine) locked ..\nthread 0: next at 7:9: mine = !locked[which]; if (mine) locked ..\nthread 1: next at 7:9: mine = !locked[which]; if (mine) locked ..\n",
         ),
         (
             "txc outcomes examples/receipt.c --threads 2",
@@ -573,14 +594,14 @@ fn third_transcripts() -> &'static [Transcript] {
             b"// As seats.c, with a check: if the seat is sold twice, a division by 0 ends the thread.\nint seats = 1, sold;\n\nvoid worker(int self) {\n    int free;\n    __transaction_atomic { free = seats > 0; }\n    if (free) {\n        __transaction_atomic {\n            seats = seats - 1;\n            sold = sold + 1;\n            free = 1 / (sold <= 1);\n        }\n    }\n}\n",
             b"",
             b"",
-            b"== outcome --order 0,0,1\n== thread 0: ended\n== thread 1: ended\n== memory\nseats = 0\nsold = 1\n== outcome --order 0,1,0,1\n== thread 0: ended\n== thread 1: trap 2\n== memory\nseats = 0\nsold = 1\n== outcome --order 0,1,1,0\n== thread 0: trap 2\n== thread 1: ended\n== memory\nseats = 0\nsold = 1\n== outcomes: 3, stuck: 0, states: 11, threads: 2\ntxc: with --order 0,1,0,1\ntxc: thread 1: trap 2 at 11:20: the divisor of 1 / 0 is 0\n            free = 1 / (sold <= 1);\n                   ^^^^^^^^^^^^^^^\n",
+            b"== outcome --order 0,0,1\n== thread 0: ended\n== thread 1: ended\n== memory\nseats = 0\nsold = 1\n== outcome --order 0,1,0,1\n== thread 0: ended\n== thread 1: trap 2\n== memory\nseats = 0\nsold = 1\n== outcome --order 0,1,1,0\n== thread 0: trap 2\n== thread 1: ended\n== memory\nseats = 0\nsold = 1\n== outcomes: 3, stuck: 0, states: 11, threads: 2\ntxc: with --order 0,1,0,1\ntxc: thread 1: trap 2 at 11:20: the divisor of 1 / 0 is 0\n            free = 1 / (sold <= 1);\n                   ^^^^^^^^^^^^^^^\ntxc: with --order 0,1,0,1\nturn thread at     seats sold\n                       1    0\n   1      0 6:5        1    .   free = seats > 0\n   2      1 6:5        1    .   free = seats > 0\n   3      0 8:9       >0   >1   seats = seats - 1; sold = sold + 1; free ..  ended\n   4      1 8:9        0    1   seats = seats - 1; sold = sold + 1; free ..  trap 2\nthread 0: ended\nthread 1: trap 2 at 11:20\n",
         ),
         (
             "txc outcomes examples/seats_checked.c --threads 2 --verbose",
             b"// As seats.c, with a check: if the seat is sold twice, a division by 0 ends the thread.\nint seats = 1, sold;\n\nvoid worker(int self) {\n    int free;\n    __transaction_atomic { free = seats > 0; }\n    if (free) {\n        __transaction_atomic {\n            seats = seats - 1;\n            sold = sold + 1;\n            free = 1 / (sold <= 1);\n        }\n    }\n}\n",
             b"",
             b"",
-            b"== outcome --order 0,0,1\n== thread 0: ended\n== thread 1: ended\n== memory\nseats = 0\nsold = 1\n== outcome --order 0,1,0,1\n== thread 0: ended\n== thread 1: trap 2\n== memory\nseats = 0\nsold = 1\n== outcome --order 0,1,1,0\n== thread 0: trap 2\n== thread 1: ended\n== memory\nseats = 0\nsold = 1\n== outcomes: 3, stuck: 0, states: 11, threads: 2\ntxc: with --order 0,1,0,1\ntxc: thread 1: trap 2 at 11:20: the divisor of 1 / 0 is 0\n            free = 1 / (sold <= 1);\n                   ^^^^^^^^^^^^^^^\n",
+            b"== outcome --order 0,0,1\n== thread 0: ended\n== thread 1: ended\n== memory\nseats = 0\nsold = 1\n== outcome --order 0,1,0,1\n== thread 0: ended\n== thread 1: trap 2\n== memory\nseats = 0\nsold = 1\n== outcome --order 0,1,1,0\n== thread 0: trap 2\n== thread 1: ended\n== memory\nseats = 0\nsold = 1\n== outcomes: 3, stuck: 0, states: 11, threads: 2\ntxc: with --order 0,1,0,1\ntxc: thread 1: trap 2 at 11:20: the divisor of 1 / 0 is 0\n            free = 1 / (sold <= 1);\n                   ^^^^^^^^^^^^^^^\ntxc: with --order 0,1,0,1\nturn thread at     seats sold\n                       1    0\n   1      0 6:5        1    .   free = seats > 0\n   2      1 6:5        1    .   free = seats > 0\n   3      0 8:9       >0   >1   seats = seats - 1; sold = sold + 1; free ..  ended\n   4      1 8:9        0    1   seats = seats - 1; sold = sold + 1; free ..  trap 2\nthread 0: ended\nthread 1: trap 2 at 11:20\n",
         ),
         (
             "txc outcomes examples/seats_mended.c --threads 2",
@@ -638,6 +659,12 @@ fn third_transcripts() -> &'static [Transcript] {
             b"",
             b"== events\n12 0 commit\n24 0 commit\n29 0 cancel\n== thread 0: ended\n== memory\nframes = 1\nwheels = 1\nbuilt = 2\n",
         ),
+    ];
+    &ROWS
+}
+
+fn fourth_transcripts() -> &'static [Transcript] {
+    static ROWS: [Transcript; 18] = [
         (
             "txc replay examples/counter.c --threads 2 --schedule examples/schedules/counter.txt",
             b"// Each thread adds one, three times. No addition is lost, however the threads interleave.\nint x;\n\nvoid worker(int self) {\n    int i;\n    for (i = 0; i < 3; i++) {\n        __transaction_atomic { x = x + 1; }\n    }\n}\n",
@@ -659,12 +686,6 @@ fn third_transcripts() -> &'static [Transcript] {
             b"",
             b"== events\n9 1 commit\n12 0 abort\n== thread 0: running\n== thread 1: running\n== memory\nx = 1\ntxc: thread 0: running at 7:9\n        __transaction_atomic { x = x + 1; }\n        ^^^^^^^^^^^^^^^^^^^^\ntxc: thread 1: running at 6:24\n    for (i = 0; i < 3; i++) {\n                       ^\n",
         ),
-    ];
-    &ROWS
-}
-
-fn fourth_transcripts() -> &'static [Transcript] {
-    static ROWS: [Transcript; 18] = [
         (
             "txc replay examples/counter.c --threads 2 --seed 10 --steps 6 --print-schedule",
             b"// Each thread adds one, three times. No addition is lost, however the threads interleave.\nint x;\n\nvoid worker(int self) {\n    int i;\n    for (i = 0; i < 3; i++) {\n        __transaction_atomic { x = x + 1; }\n    }\n}\n",
@@ -770,6 +791,12 @@ fn fourth_transcripts() -> &'static [Transcript] {
             b"",
             b"== thread 0: ended\n== thread 1: ended\n== memory\ntrain = 0\nbus = 6\nasked = 4\nby_train = 1\nby_bus = 3\n",
         ),
+    ];
+    &ROWS
+}
+
+fn fifth_transcripts() -> &'static [Transcript] {
+    static ROWS: [Transcript; 17] = [
         (
             "txc source examples/against/clear_torn.c --threads 2 --order 0,1",
             b"// Thread 0 clears an array in one transaction, thread 1 reads both ends of it in another. So it prints 1 1, or 0 0.\nunsigned a[8] = {1, 1, 1, 1, 1, 1, 1, 1};\n\nvoid worker(int self) {\n    unsigned first = 0, last = 0;\n    if (self == 0) {\n        __transaction_atomic {\n            for (int i = 0; i < 8; i++) a[i] = 0;\n        }\n    } else {\n        __transaction_atomic {\n            first = a[0]; /*pause*/\n            last = a[7];\n        }\n        printf(\"%u %u\\n\", first, last);\n    }\n}\n",
@@ -791,12 +818,6 @@ fn fourth_transcripts() -> &'static [Transcript] {
             b"",
             b"== thread 0: ended\n== thread 1: ended\n== memory\nx = 6\n",
         ),
-    ];
-    &ROWS
-}
-
-fn fifth_transcripts() -> &'static [Transcript] {
-    static ROWS: [Transcript; 12] = [
         (
             "txc source examples/counter.c --threads 2 --order 0,1,1",
             b"// Each thread adds one, three times. No addition is lost, however the threads interleave.\nint x;\n\nvoid worker(int self) {\n    int i;\n    for (i = 0; i < 3; i++) {\n        __transaction_atomic { x = x + 1; }\n    }\n}\n",
@@ -862,10 +883,10 @@ fn fifth_transcripts() -> &'static [Transcript] {
         ),
         (
             "txc trace examples/properties/lock_broken.c --threads 2 --order 0,1,0,0,1,1 --property alone",
-            b"// A lock that is tested in one transaction and taken in the next: two threads may find it free.\nint taken, inside, entered;\n\nint alone(void) { return inside <= 1; }\n\nvoid worker(int self) {\n    int mine = 0;\n    while (!mine) {\n        __transaction_atomic { mine = !taken; }\n    }\n    __transaction_atomic { taken = 1; }\n    __transaction_atomic { inside = inside + 1; }\n    __transaction_atomic { inside = inside - 1; entered = entered + 1; }\n    __transaction_atomic { taken = 0; }\n}\n",
+            b"// A lock that is tested in one transaction and taken in the next: two threads may find it free.\nint taken, inside, entered;\n\nint alone(void) { return inside <= 1; }\n\nvoid worker(int self) {\n    int mine = 0;\n    while (!mine) {\n        __transaction_atomic { mine = !taken; }\n    }\n    __transaction_atomic { taken = 1; }\n    __transaction_atomic { inside = inside + 1; }\n    __transaction_atomic { inside = inside - 1; entered = entered + 1; }\n    __transaction_atomic { taken = 0; }\n}\n\n// txc: --threads 2 --always alone (fails)\n",
             b"",
             b"",
-            b"turn thread at     taken inside\n                       0      0\n   1      0 9:9        0      .   mine = !taken\n   2      1 9:9        0      .   mine = !taken\n   3      0 11:5      >1      .   taken = 1\n   4      0 12:5       .     >1   inside = inside + 1\n   5      1 11:5      >1      .   taken = 1\n   6      1 12:5       .     >2   inside = inside + 1\nthread 0: next at 13:5: inside = inside - 1; entered = entered + ..\nthread 1: next at 13:5: inside = inside - 1; entered = entered + ..\nproperty alone: fails\n",
+            b"turn thread at     taken inside\n                       0      0\n   1      0 9:9        0      .   mine = !taken\n   2      1 9:9        0      .   mine = !taken\n   3      0 11:5      >1      .   taken = 1\n   4      0 12:5       .     >1   inside = inside + 1\n   5      1 11:5      >1      .   taken = 1\n   6      1 12:5       .     >2   inside = inside + 1\nthread 0: next at 13:5: inside = inside - 1; entered = entered + ..\nthread 1: next at 13:5: inside = inside - 1; entered = entered + ..\nproperty alone: fails: inside = 2\n",
         ),
         (
             "txc trace examples/locks.c --threads 2 --order 0,1",
@@ -880,6 +901,20 @@ fn fifth_transcripts() -> &'static [Transcript] {
             b"",
             b"",
             b"turn thread at     seats sold\n                       1    0\n   1      0 6:5        1    .   free = seats > 0\n   2      1 6:5        1    .   free = seats > 0\n   3      1 8:9       >0   >1   seats = seats - 1; sold = sold + 1  ended\n   4      0 8:9      >-1   >2   seats = seats - 1; sold = sold + 1  ended\nthread 0: ended\nthread 1: ended\n",
+        ),
+        (
+            "txc trace examples/seats.c --threads 2 --order 0,1 --full",
+            b"// One seat and two buyers, who check and buy in two transactions: the seat can be sold twice.\nint seats = 1, sold;\n\nvoid worker(int self) {\n    int free;\n    __transaction_atomic { free = seats > 0; }\n    if (free) {\n        __transaction_atomic {\n            seats = seats - 1;\n            sold = sold + 1;\n        }\n    }\n}\n",
+            b"",
+            b"",
+            b"== first\nseats = 1\n== turn 1: thread 0 at 6:5 in worker\n6 |     __transaction_atomic { free = seats > 0; }\nread seats = 1\n== turn 2: thread 1 at 6:5 in worker\n6 |     __transaction_atomic { free = seats > 0; }\nread seats = 1\n== last\nthread 0: next at 8:9: seats = seats - 1; sold = sold + 1\nthread 1: next at 8:9: seats = seats - 1; sold = sold + 1\n",
+        ),
+        (
+            "txc trace examples/seats.c --threads 2 --order 0,1 --format json",
+            b"// One seat and two buyers, who check and buy in two transactions: the seat can be sold twice.\nint seats = 1, sold;\n\nvoid worker(int self) {\n    int free;\n    __transaction_atomic { free = seats > 0; }\n    if (free) {\n        __transaction_atomic {\n            seats = seats - 1;\n            sold = sold + 1;\n        }\n    }\n}\n",
+            b"",
+            b"",
+            b"{\"turn\":1,\"thread\":0,\"line\":6,\"column\":5,\"function\":\"worker\",\"words\":\"free = seats > 0\",\"inner\":[],\"reads\":[{\"global\":\"seats\",\"value\":1}],\"writes\":[],\"idle\":false,\"cancelled\":false,\"printed\":\"\",\"end\":\"next\"}\n{\"turn\":2,\"thread\":1,\"line\":6,\"column\":5,\"function\":\"worker\",\"words\":\"free = seats > 0\",\"inner\":[],\"reads\":[{\"global\":\"seats\",\"value\":1}],\"writes\":[],\"idle\":false,\"cancelled\":false,\"printed\":\"\",\"end\":\"next\"}\n{\"thread\":0,\"end\":\"next\",\"line\":8,\"column\":9,\"function\":\"worker\",\"words\":\"seats = seats - 1; sold = sold + 1\"}\n{\"thread\":1,\"end\":\"next\",\"line\":8,\"column\":9,\"function\":\"worker\",\"words\":\"seats = seats - 1; sold = sold + 1\"}\n",
         ),
     ];
     &ROWS

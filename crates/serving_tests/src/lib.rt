@@ -1,4 +1,4 @@
-//! Tests of requests that are served, in a crate of their own: a crate with tests is proved twice.
+//! Tests of served requests. They are in a crate of their own, since a crate with tests is proved twice.
 #![tactic(auto)]
 
 #[cfg(test)]
@@ -9,6 +9,8 @@ mod beside;
 mod certified;
 #[cfg(test)]
 mod compared;
+#[cfg(test)]
+mod explored;
 #[cfg(test)]
 mod fixed;
 #[cfg(test)]
@@ -33,6 +35,8 @@ mod ranges;
 mod refusals;
 #[cfg(test)]
 mod served;
+#[cfg(test)]
+mod tested;
 #[cfg(test)]
 mod timed;
 #[cfg(test)]

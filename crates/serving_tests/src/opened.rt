@@ -1,4 +1,4 @@
-//! Which files are opened for the words of a command line, and what is said of those that are not.
+//! The files that are opened for the words of a command line, and the reports about those that are not.
 
 use serving::Files;
 use std::alloc::Global;
@@ -10,10 +10,10 @@ use std::time::Clock;
 use system::serve_words;
 use test_serving::{ADDS, ServeResult};
 
-/// What is found of a file's name: the bytes of the file, or why it is not opened.
+/// The result of opening a file: its bytes, or the reason why it is not opened.
 pub(crate) type Found = Result<&'static [u8], ErrorKind>;
 
-/// The two files that there are.
+/// The two files.
 #[derive(Drop)]
 pub(crate) struct TwoFiles {
     /// The file `a.c`.
@@ -77,7 +77,7 @@ impl IsTerminal for Told {
     }
 }
 
-/// A command line, what is found of its two files, whether standard error is a terminal, and what is answered.
+/// A command line, the results of opening its two files, whether standard error is a terminal, and the answer.
 type Row = (&'static str, Found, Found, bool, ServeResult<'static>);
 
 pub(crate) const REPLAY: &str = "txc replay a.c --threads 2 --schedule s.txt";
@@ -95,8 +95,8 @@ pub(crate) const REFUSED: Found = Err(ErrorKind::OutOfMemory);
 const OUT_OF_MEMORY: ServeResult<'static> = (4, b"", b"txc: out of memory\n");
 
 fn rows() -> &'static [Row] {
-    static ROWS: [Row; 21] = [
-        // words that make no request open no file
+    static ROWS: [Row; 34] = [
+        // invalid words open no file
         (
             "txc run a.c --threads 65",
             REFUSED,
@@ -118,6 +118,32 @@ fn rows() -> &'static [Row] {
             NONE,
             false,
             (2, b"", b"txc: cannot read a.c\n"),
+        ),
+        // reports for editors
+        (
+            "txc check a.c --format json",
+            NONE,
+            NONE,
+            false,
+            (
+                2,
+                b"",
+                b"{\"file\":\"a.c\",\"message\":\"cannot be read\"}\n",
+            ),
+        ),
+        (
+            "txc check a.c --format short",
+            NONE,
+            NONE,
+            true,
+            (2, b"", b"a.c: error: cannot be read\n"),
+        ),
+        (
+            "txc check a.c --format json",
+            Ok(b"int\xff"),
+            NONE,
+            false,
+            (2, b"", b"{\"file\":\"a.c\",\"message\":\"is not UTF-8\"}\n"),
         ),
         // a schedule is opened before the source is read
         (
@@ -159,7 +185,7 @@ fn rows() -> &'static [Row] {
                 b"",
             ),
         ),
-        // a task with no schedule opens none
+        // a task without a schedule opens none
         (
             RUN,
             Ok(ADDS),
@@ -174,7 +200,7 @@ fn rows() -> &'static [Row] {
             false,
             (0, b"== events\n== thread 0: ended\n== memory\n", b""),
         ),
-        // the line of a fault follows it on a terminal
+        // the source line follows a fault on a terminal
         (
             RUN,
             Ok(b"int x;"),
@@ -193,7 +219,7 @@ fn rows() -> &'static [Row] {
             false,
             (1, b"", b"txc: fault 28 at 1:7: no worker\n"),
         ),
-        // what outcomes are compared with is opened before the source is read
+        // the other file of a comparison is opened before the source is read
         (
             REFINES,
             NONE,
@@ -219,7 +245,115 @@ fn rows() -> &'static [Row] {
             false,
             (0, b"as expected\n", b""),
         ),
-        // numbers stand in place of names, of name tokens alone
+        // machine-readable results
+        (
+            "txc outcomes a.c --threads 1 --format json",
+            Ok(ADDS),
+            NONE,
+            true,
+            (
+                0,
+                b"== outcome --order 0\n== thread 0: ended\n== memory\nx = 1\n== outcomes: 1, stuck: 0, states: 2, threads: 1\n",
+                b"{\"result\":\"outcome\",\"order\":[0],\"threads\":[{\"end\":\"ended\",\"output\":\"\"}],\"globals\":{\"x\":[1]}}\n{\"result\":\"verdict\",\"status\":0,\"threads\":1,\"outcomes\":1,\"stuck\":0,\"states\":2,\"stopped\":null}\n",
+            ),
+        ),
+        (
+            "txc outcomes a.c --threads 1 --always p --format json",
+            Ok(
+                b"int a[2] = {-1}; int p(void) { return !a[1]; } void worker(int self) { printf(\"\\\"\\n\"); __transaction_atomic { a[1] = 1; } }",
+            ),
+            NONE,
+            false,
+            (
+                5,
+                b"== not p --order 0\n== thread 0: ended\n\"\n== memory\na = -1 1\n",
+                b"{\"result\":\"property\",\"name\":\"p\",\"when\":\"always\",\"verdict\":\"fails\",\"order\":[0],\"threads\":[{\"end\":\"ended\",\"output\":\"\\\"\\u000a\"}],\"globals\":{\"a\":[-1,1]}}\n{\"result\":\"verdict\",\"status\":5,\"threads\":1,\"stuck\":0,\"stopped\":\"answered\"}\n",
+            ),
+        ),
+        (
+            "txc outcomes a.c --threads 1 --always p --format github",
+            Ok(
+                b"int x; int p(void) { return !x; } void worker(int self) { __transaction_atomic { x = 1; } }",
+            ),
+            NONE,
+            false,
+            (
+                5,
+                b"== not p --order 0\n== thread 0: ended\n== memory\nx = 1\n",
+                b"::error file=a.c,line=1,col=12,title=p::p fails with --order 0\n",
+            ),
+        ),
+        (
+            "txc check a.c --format github",
+            Ok(b"int x;"),
+            NONE,
+            false,
+            (
+                1,
+                b"",
+                b"::error file=a.c,line=1,col=7,title=fault 28::no worker\n",
+            ),
+        ),
+        // only line ends differ
+        (
+            "txc outcomes a.c --threads 1 --expect s.txt",
+            Ok(ADDS),
+            Ok(
+                b"== outcome --order 0\r\n== thread 0: ended\r\n== memory\r\nx = 1\r\n== outcomes: 1, stuck: 0, states: 2, threads: 1\r\n",
+            ),
+            false,
+            (
+                5,
+                b"line 1 differs\nexpected: == outcome --order 0?\nfound: == outcome --order 0\n",
+                b"txc: they differ only in carriage returns\n",
+            ),
+        ),
+        (
+            "txc outcomes a.c --threads 1 --expect s.txt",
+            Ok(ADDS),
+            Ok(
+                b"== outcome --order 0\n== thread 0: ended\n== memory\nx = 1\n== outcomes: 1, stuck: 0, states: 2, threads: 1",
+            ),
+            false,
+            (
+                5,
+                b"line 6 differs\nexpected ends\nfound: \n",
+                b"txc: they differ only in the last line end\n",
+            ),
+        ),
+        // if a search has no time, it ends after the turns of its first state, and so does the search for a range
+        (
+            "txc outcomes a.c --threads 2..3 --time 0",
+            Ok(ADDS),
+            NONE,
+            true,
+            (
+                4,
+                b"== outcomes: 0, stuck: 0, states: 3, threads: 2, stopped at the time\n",
+                b"txc: in 3 states: x has 2 values, 0 to 1\ntxc: --time SECONDS is how long the search may take, and as long again the list\n",
+            ),
+        ),
+        (
+            "txc outcomes a.c --time 0 --always p",
+            Ok(
+                b"int x; int p(void) { return 1; } void worker(int self) { __transaction_atomic { x = 1; } }",
+            ),
+            NONE,
+            false,
+            (
+                4,
+                b"== open p: states 3, threads: 2, stopped at the time\n",
+                b"",
+            ),
+        ),
+        (
+            "txc outcomes a.c --time 0 --refines s.txt",
+            Ok(ADDS),
+            Ok(ADDS),
+            false,
+            (4, b"", b"txc: a.c: stopped at the time\n"),
+        ),
+        // numbers replace only name tokens
         (
             "txc source a.c --order 0 -D N=-3 -D W=7",
             Ok(
@@ -236,6 +370,16 @@ fn rows() -> &'static [Row] {
             false,
             (2, b"", b"txc: -D y: no such name in a.c\n"),
         ),
+        // likewise for every number of threads
+        (
+            "txc outcomes a.c --threads any --always kept -D N=3",
+            Ok(
+                b"int x; int kept(void) { return x < N; } void worker(int self) { __transaction_atomic { x = (x + 1) % N; } }",
+            ),
+            NONE,
+            false,
+            (0, b"== always kept: 1 to 64 threads, nodes 3\n", b""),
+        ),
         // and in the other program too
         (
             "txc outcomes a.c --threads 1 --refines s.txt -D N=1",
@@ -244,7 +388,7 @@ fn rows() -> &'static [Row] {
             false,
             (0, b"== refines s.txt: outcomes 1 of 1, threads: 1\n", b""),
         ),
-        // it is said whose fault it is
+        // the file of the fault is named
         (
             REFINES,
             Ok(ADDS),
@@ -260,8 +404,8 @@ fn rows() -> &'static [Row] {
     &ROWS
 }
 
-/// Answers a command line, in which a space ends each word but the last. Gives the exit status, if there was memory for
-/// the words.
+/// Answers a command line, in which a space ends each word but the last. Returns the exit status, unless an allocation
+/// failed for the words.
 pub(crate) fn answer_line<H: Threads + Wait + Clock + Sync, W: Write>(
     rt: &H,
     alloc: Global,
@@ -274,7 +418,7 @@ pub(crate) fn answer_line<H: Threads + Wait + Clock + Sync, W: Write>(
     Some(serve_words(rt, alloc, words.as_slice(), files, out, told).status)
 }
 
-/// Whether a row is answered as it should be.
+/// Whether a row has the expected answer.
 fn is_answered<H: Threads + Wait + Clock + Sync>(rt: &H, alloc: Global, row: &Row) -> bool {
     let (line, source, schedule, is_terminal, wanted) = *row;
     let files = TwoFiles { source, schedule };
@@ -287,7 +431,7 @@ fn is_answered<H: Threads + Wait + Clock + Sync>(rt: &H, alloc: Global, row: &Ro
     status == Some(wanted.0) && out.as_slice() == wanted.1 && told.bytes.as_slice() == wanted.2
 }
 
-/// The number, from 0, of the first row that is answered otherwise.
+/// The number of the first row with another answer, counted from 0.
 fn wrong_files<H: Threads + Wait + Clock + Sync>(rt: &H, alloc: Global) -> Option<usize> {
     for (number, row) in rows().iter().enumerate() {
         if !is_answered(rt, alloc, row) {
@@ -302,7 +446,7 @@ fn files_are_opened_in_turn(rt: HostRuntime) {
     assert_eq!(rt; wrong_files(&rt, rt.alloc()), None);
 }
 
-/// Whether a command line prints what begins so, and nothing is told.
+/// Whether a command line prints an output with this prefix, and reports nothing.
 fn begins_with<H: Threads + Wait + Clock + Sync>(
     rt: &H,
     alloc: Global,

@@ -1,7 +1,8 @@
-//! Tests of the seconds behind a line that tells how far a walk is.
+//! Tests of the seconds at the end of a progress line.
 
 use crate::all_orders::MANY;
 use command::Format;
+use report::WalkEnd;
 use serving::{Detail, Teller, Timed, list_outcomes};
 use std::alloc::Global;
 use std::cell::Cell;
@@ -9,7 +10,7 @@ use std::io;
 use std::io::ErrorKind;
 use std::time::{Clock, Duration};
 
-/// A clock that goes on by some seconds each time it is read.
+/// A clock that advances by some seconds each time it is read.
 #[derive(Drop)]
 struct Ticking {
     now: Cell<u64>,
@@ -42,10 +43,10 @@ impl Clock for Broken {
     }
 }
 
-/// Whether this is told of a walk over more than 1,000 states and fewer than 2,000, before the line is taken away.
+/// Whether this is the progress of a search with 1,000 to 2,000 states, before the line is cleared.
 fn is_told<C: Clock>(alloc: Global, clock: &C, line: &[u8]) -> bool {
     let mut told = Vec::new(alloc);
-    let mut timed = Timed::new(&mut told, clock);
+    let mut timed = Timed::new(&mut told, clock, None);
     let detail = Detail::of("a.c", false, Format::Plain, true);
     let mut teller = Teller::new(&mut timed, detail);
     let found = list_outcomes(alloc, MANY, 2, 100000, 10000, u64::MAX, &mut teller);
@@ -56,9 +57,9 @@ fn is_told<C: Clock>(alloc: Global, clock: &C, line: &[u8]) -> bool {
         }
 }
 
-/// What takes a line away.
+/// The text that clears a line.
 fn line_cleared() -> &'static [u8] {
-    b"\r                                                            \r"
+    b"\r                                                                               \r"
 }
 
 #[test]
@@ -67,7 +68,13 @@ fn seconds_are_told(rt: HostRuntime) {
         now: Cell::new(70),
         step: 12,
     };
-    assert!(rt; is_told(rt.alloc(), &ticking, b"\rtxc: 1000 states, 12 s"));
+    assert!(rt;
+        is_told(
+            rt.alloc(),
+            &ticking,
+            b"\rtxc: 1000 states, 18 to expand, 12 s, 83/s"
+        )
+    );
 }
 
 #[test]
@@ -76,10 +83,46 @@ fn no_second_is_told_before_one_has_passed(rt: HostRuntime) {
         now: Cell::new(70),
         step: 0,
     };
-    assert!(rt; is_told(rt.alloc(), &stopped, b"\rtxc: 1000 states"));
+    assert!(rt; is_told(rt.alloc(), &stopped, b"\rtxc: 1000 states, 18 to expand"));
 }
 
 #[test]
 fn no_seconds_are_told_without_a_clock(rt: HostRuntime) {
-    assert!(rt; is_told(rt.alloc(), &Broken, b"\rtxc: 1000 states"));
+    assert!(rt; is_told(rt.alloc(), &Broken, b"\rtxc: 1000 states, 18 to expand"));
+}
+
+/// How many states a search of this many seconds finds, how many outcomes are listed, and how it ends.
+fn found_within<C: Clock>(alloc: Global, clock: &C, seconds: u32) -> Option<(u64, usize, WalkEnd)> {
+    let mut told = Vec::new(alloc);
+    let mut timed = Timed::new(&mut told, clock, Some(seconds));
+    let detail = Detail::of("a.c", false, Format::Plain, false);
+    let mut teller = Teller::new(&mut timed, detail);
+    match list_outcomes(alloc, MANY, 2, 100000, 10000, u64::MAX, &mut teller) {
+        Ok(found) => Some((found.states, found.outcomes.len(), found.end)),
+        Err(_) => None,
+    }
+}
+
+/// A search is stopped once its seconds have passed, and the outcomes of the states that it found are listed.
+#[test]
+fn a_search_has_a_time_limit(rt: HostRuntime) {
+    let each_second = Ticking {
+        now: Cell::new(70),
+        step: 1,
+    };
+    let found = found_within(rt.alloc(), &each_second, 150);
+    assert!(rt; found == Some((189, 1, WalkEnd::AtTime)));
+    let few = Ticking {
+        now: Cell::new(70),
+        step: 0,
+    };
+    let found = found_within(rt.alloc(), &few, 1);
+    assert!(rt; found == Some((1681, 1, WalkEnd::Whole)));
+}
+
+/// Without a clock, no time passes.
+#[test]
+fn a_search_ends_without_a_clock(rt: HostRuntime) {
+    let found = found_within(rt.alloc(), &Broken, 1);
+    assert!(rt; found == Some((1681, 1, WalkEnd::Whole)));
 }

@@ -1,8 +1,10 @@
 -- files that are kept
 pub mod Keeping
--- what is answered to words
+-- the answer to words that make no request
 pub mod Telling
--- what is answered if a file could not be read
+-- the answer if a file could not be read
 pub mod Unread
 -- a step of walks by hand
 mod Walks
+-- questions that pass
+pub mod Testing

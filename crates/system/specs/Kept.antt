@@ -1,8 +1,9 @@
 -- Files that were read, by their names.
-use Rattle.std.specs.Prelude.{◌≡◌, ◌⊎◌, ℕ, true, List, [], ◌∷◌, Some, None, IfSome, bytes_eq, if◌then◌else◌}
+use Rattle.std.specs.Prelude.{◌≡◌, ◌⊎◌, ℕ, true, List, [], ◌∷◌, Option, Some, None, IfSome, bytes_eq, if◌then◌else◌}
 use Rattle.std.specs.Prelude.{is_some, string_bytes}
 use Rattle.command.specs.declared.request.Request.{Request}
-use Rattle.command.specs.declared.request.Request.TheVariants.{Program, Certify, Compare, Ask, Explain, ExplainEnd}
+use Rattle.command.specs.declared.request.Request.TheVariants.{Program, Certify, Compare, Ask, Cover}
+use Rattle.command.specs.declared.request.Request.TheVariants.{Explain, ExplainEnd}
 use Rattle.serving.specs.Compared.{name_of}
 use Rattle.serving.specs.Files.{Contents, schedule_of}
 use Rattle.serving.specs.Numbers.{IsSource, read_of}
@@ -14,14 +15,19 @@ kept_in [] name = None
 kept_in (file ∷ files) name =
     if bytes_eq (string_bytes file.name) name then Some file.bytes.items else kept_in files name
 
--- a file of a request was read to its end, or is a source and was read up to one byte past the most that it may have
-abbrev pub IsReadFrom : Request → Contents → KeptFile → Type 0
+-- a request reads this file as a source; without a request, every file is tested, and is a source
+abbrev pub IsReadAsSource : Option Request → (name : List ℕ) → Type 0
+IsReadAsSource (Some request) name = IsSource request name
+IsReadAsSource None name = Unit {0}
+
+-- a file was read to its end; or it is a source, and was read up to one byte past its size limit
+abbrev pub IsReadFrom : Option Request → Contents → KeptFile → Type 0
 IsReadFrom request contents file = IfSome (contents (string_bytes file.name))
     (λ bytes. (file.bytes.items ≡ bytes)
-    ⊎ IsSource request (string_bytes file.name) × (file.bytes.items ≡ read_of bytes))
+    ⊎ IsReadAsSource request (string_bytes file.name) × (file.bytes.items ≡ read_of bytes))
 
 -- each file was read so
-abbrev pub AreReadFrom : Request → Contents → List KeptFile → Type 0
+abbrev pub AreReadFrom : Option Request → Contents → List KeptFile → Type 0
 AreReadFrom request contents [] = Unit {0}
 AreReadFrom request contents (file ∷ files) = IsReadFrom request contents file × AreReadFrom request contents files
 
@@ -38,9 +44,10 @@ AreKnown (Certify file verbose format claim) contents = IsFileKnown contents (st
 AreKnown (Compare file verbose format comparison) contents =
     IsFileKnown contents (string_bytes file) × IsFileKnown contents (name_of comparison.against)
 AreKnown (Ask file verbose format questions) contents = IsFileKnown contents (string_bytes file)
+AreKnown (Cover file verbose format coverage) contents = IsFileKnown contents (string_bytes file)
 AreKnown (Explain number) contents = Unit {0}
 AreKnown (ExplainEnd word number) contents = Unit {0}
 
--- the bytes of each file that are known stay as they are
+-- the known bytes of each file stay the same
 abbrev pub StayKnown : (old new : Contents) → Type 0
 StayKnown old new = (name : List ℕ) → IsFileKnown old name → new name ≡ old name

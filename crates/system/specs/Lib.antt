@@ -1,5 +1,9 @@
 -- files that were read
 pub mod Kept
+-- the response to a request
+pub mod Served
+-- the answers to questions in files
+pub mod Tests
 -- the response to words
 pub mod Words
 -- definitions for private functions alone

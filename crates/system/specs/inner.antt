@@ -1,2 +1,4 @@
 -- what was recorded
 pub mod Recorded
+-- an opened file
+pub mod Opened

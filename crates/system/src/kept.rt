@@ -1,10 +1,10 @@
 //! Files that were read, and are kept.
 
-ghost use Rattle.std.specs.Prelude.{◌≡◌, ◌⊎◌, IfErr, IfOk, IfSome, List, OnOk, false, option_map, string_bytes, true, ℕ};
+ghost use Rattle.std.specs.Prelude.{◌≡◌, ◌⊎◌, IfErr, IfOk, IfSome, List, None, OnOk, Option, Some, false, option_map, string_bytes, true, ℕ};
 ghost use Rattle.command.specs.declared.request.Request.{Request};
 ghost use Rattle.serving.specs.Compared.{name_of};
 ghost use Rattle.serving.specs.Numbers.{IsSource, other_of};
-ghost use Rattle.system.specs.Kept.{AreKnown, AreReadFrom, IsFileKnown, IsReadFrom, StayKnown, kept_in};
+ghost use Rattle.system.specs.Kept.{AreKnown, AreReadFrom, IsFileKnown, IsReadAsSource, IsReadFrom, StayKnown, kept_in};
 
 use command::{Against, Format, Request};
 use serving::{Detail, Files, Teller, read_bytes, schedule_of};
@@ -16,12 +16,12 @@ use std::io::{ErrorKind, Read, Write};
 #[derive(Drop)]
 pub struct KeptFile {
     pub name: String,
-    /// What it gave.
+    /// Its contents.
     pub bytes: Vec<u8>,
 }
 
-/// The bytes of the file of a name, if it is kept. Of two with one name the first is taken.
-fn bytes_of<'k>(files: &'k [KeptFile], name: &str) -> Option<&'k [u8]>
+/// The bytes of the file with this name, if it is kept. If two files have the name, the first one counts.
+pub(crate) fn bytes_of<'k>(files: &'k [KeptFile], name: &str) -> Option<&'k [u8]>
     ensures { option_map (λ s. s.now) result ≡ kept_in files.now name.now }
 {
     'files: for file in files {
@@ -64,26 +64,28 @@ fn read_whole<R: Read + Drop>(alloc: Global, mut file: R) -> io::Result<Vec<u8>>
 #[derive(Clone, Copy)]
 struct NamedFile<'n> {
     name: &'n str,
-    /// Whether it is to be a source. Then no more of it is read than shows that it is too long.
+    /// Whether it is to be a source. Then at most one byte past the size limit is read.
     is_source: bool,
-    /// Whether the reason is told if it can't be read.
+    /// Whether the reason is reported if the file can't be read, and in which format.
     verbose: bool,
+    format: Format,
 }
 
 impl<'n> NamedFile<'n> {
     /// A source.
-    fn source(name: &'n str, verbose: bool) -> NamedFile<'n>
+    fn source(name: &'n str, verbose: bool, format: Format) -> NamedFile<'n>
         ensures { result.name.now ≡ name.now }
     {
         NamedFile {
             name,
             is_source: true,
             verbose,
+            format,
         }
     }
 
     /// A file of any length.
-    fn whole(name: &'n str, verbose: bool) -> NamedFile<'n>
+    fn whole(name: &'n str, verbose: bool, format: Format) -> NamedFile<'n>
         ensures name { result.name.now ≡ name.now }
         ensures whole { result.is_source ≡ false }
     {
@@ -91,17 +93,18 @@ impl<'n> NamedFile<'n> {
             name,
             is_source: false,
             verbose,
+            format,
         }
     }
 
     /// The other side of a comparison.
-    fn against(against: &'n Against, verbose: bool) -> NamedFile<'n>
+    fn against(against: &'n Against, verbose: bool, format: Format) -> NamedFile<'n>
         ensures name { result.name.now ≡ name_of against.now }
         ensures source { (file : List ℕ) → result.is_source ≡ true → result.name.now ≡ other_of file against.now }
     {
         match against {
-            Against::Refined { file } => NamedFile::source(file.as_str(), verbose),
-            Against::Expected { file } => NamedFile::whole(file.as_str(), verbose),
+            Against::Refined { file } => NamedFile::source(file.as_str(), verbose, format),
+            Against::Expected { file } => NamedFile::whole(file.as_str(), verbose, format),
         }
     }
 }
@@ -109,7 +112,7 @@ impl<'n> NamedFile<'n> {
 /// Reads a file.
 fn read_file<F: Files>(alloc: Global, named: &NamedFile<'_>, files: &F) -> io::Result<KeptFile>
     ensures name { IfOk result (λ file. string_bytes file.name ≡ named.now.name.now) }
-    ensures bytes { (request : Request) → (named.now.is_source ≡ true → IsSource request named.now.name.now)
+    ensures bytes { (request : Option Request) → (named.now.is_source ≡ true → IsReadAsSource request named.now.name.now)
         → IfOk result (λ file. IsReadFrom request (F.contents files.now) file) }
 {
     let name = String::from_str(alloc, named.name)?;
@@ -122,7 +125,7 @@ fn read_file<F: Files>(alloc: Global, named: &NamedFile<'_>, files: &F) -> io::R
     Ok(KeptFile { name, bytes })
 }
 
-/// Reads a file and keeps it, behind those that are kept.
+/// Reads a file and keeps it, after the files kept before.
 fn read_into<F: Files>(
     alloc: Global,
     named: &NamedFile<'_>,
@@ -132,15 +135,17 @@ fn read_into<F: Files>(
     ensures known { OnOk result (IsFileKnown (kept_in kept.new.items) named.now.name.now) }
     ensures others { OnOk result (StayKnown (kept_in kept.old.items) (kept_in kept.new.items)) }
     ensures read { (request : Request) → (named.now.is_source ≡ true → IsSource request named.now.name.now)
-        → OnOk result (AreReadFrom request (F.contents files.now) kept.old.items
-        → AreReadFrom request (F.contents files.now) kept.new.items) }
+        → OnOk result (AreReadFrom (Some request) (F.contents files.now) kept.old.items
+        → AreReadFrom (Some request) (F.contents files.now) kept.new.items) }
+    ensures tested { OnOk result (AreReadFrom None (F.contents files.now) kept.old.items
+        → AreReadFrom None (F.contents files.now) kept.new.items) }
 {
     let file = read_file(alloc, named, files)?;
     kept.push(file)?;
     Ok(())
 }
 
-/// Reads a file and keeps it. If it can't be read, that is told, and the error is then the exit status.
+/// Reads a file and keeps it. The error is the exit status, and the reason is reported on standard error.
 fn keep<F: Files, E: Write>(
     alloc: Global,
     named: &NamedFile<'_>,
@@ -151,20 +156,22 @@ fn keep<F: Files, E: Write>(
     ensures known { OnOk result (IsFileKnown (kept_in kept.new.items) named.now.name.now) }
     ensures others { OnOk result (StayKnown (kept_in kept.old.items) (kept_in kept.new.items)) }
     ensures read { (request : Request) → (named.now.is_source ≡ true → IsSource request named.now.name.now)
-        → OnOk result (AreReadFrom request (F.contents files.now) kept.old.items
-        → AreReadFrom request (F.contents files.now) kept.new.items) }
+        → OnOk result (AreReadFrom (Some request) (F.contents files.now) kept.old.items
+        → AreReadFrom (Some request) (F.contents files.now) kept.new.items) }
+    ensures tested { OnOk result (AreReadFrom None (F.contents files.now) kept.old.items
+        → AreReadFrom None (F.contents files.now) kept.new.items) }
     ensures status { IfErr result (λ s. (s ≡ 2) ⊎ (s ≡ 4)) }
 {
     match read_into(alloc, named, files, kept) {
         Ok(()) => Ok(()),
         Err(error) => {
-            let detail = Detail::of(named.name, named.verbose, Format::Plain, false);
+            let detail = Detail::of(named.name, named.verbose, named.format, false);
             Err(Teller::new(err, detail).not_read(named.name, &error))
         }
     }
 }
 
-/// Reads the files that a request names. If one can't be read, that is told, and the error is then the exit status.
+/// Reads the files that a request names. The error is the exit status, and the reason is reported on standard error.
 pub(crate) fn keep_files<F: Files, E: Write>(
     alloc: Global,
     request: &Request,
@@ -172,7 +179,7 @@ pub(crate) fn keep_files<F: Files, E: Write>(
     err: &mut E,
 ) -> Result<Vec<KeptFile>, u8>
     ensures known { IfOk result (λ kept. AreKnown request.now (kept_in kept.items)) }
-    ensures read { IfOk result (λ kept. AreReadFrom request.now (F.contents files.now) kept.items) }
+    ensures read { IfOk result (λ kept. AreReadFrom (Some request.now) (F.contents files.now) kept.items) }
     ensures status { IfErr result (λ s. (s ≡ 2) ⊎ (s ≡ 4)) }
 {
     let mut kept = Vec::new(alloc);
@@ -180,12 +187,12 @@ pub(crate) fn keep_files<F: Files, E: Write>(
         Request::Program {
             file,
             verbose,
+            format,
             task,
-            ..
         } => {
             keep(
                 alloc,
-                &NamedFile::source(file.as_str(), *verbose),
+                &NamedFile::source(file.as_str(), *verbose, *format),
                 files,
                 &mut kept,
                 err,
@@ -193,7 +200,7 @@ pub(crate) fn keep_files<F: Files, E: Write>(
             if let Some(name) = schedule_of(task) {
                 keep(
                     alloc,
-                    &NamedFile::whole(name, *verbose),
+                    &NamedFile::whole(name, *verbose, *format),
                     files,
                     &mut kept,
                     err,
@@ -203,26 +210,26 @@ pub(crate) fn keep_files<F: Files, E: Write>(
         Request::Certify {
             file,
             verbose,
+            format,
             claim,
-            ..
         } => {
             keep(
                 alloc,
-                &NamedFile::source(file.as_str(), *verbose),
+                &NamedFile::source(file.as_str(), *verbose, *format),
                 files,
                 &mut kept,
                 err,
             )?;
             keep(
                 alloc,
-                &NamedFile::whole(claim.order.as_str(), *verbose),
+                &NamedFile::whole(claim.order.as_str(), *verbose, *format),
                 files,
                 &mut kept,
                 err,
             )?;
             keep(
                 alloc,
-                &NamedFile::whole(claim.report.as_str(), *verbose),
+                &NamedFile::whole(claim.report.as_str(), *verbose, *format),
                 files,
                 &mut kept,
                 err,
@@ -231,28 +238,39 @@ pub(crate) fn keep_files<F: Files, E: Write>(
         Request::Compare {
             file,
             verbose,
+            format,
             comparison,
-            ..
         } => {
             keep(
                 alloc,
-                &NamedFile::source(file.as_str(), *verbose),
+                &NamedFile::source(file.as_str(), *verbose, *format),
                 files,
                 &mut kept,
                 err,
             )?;
             keep(
                 alloc,
-                &NamedFile::against(&comparison.against, *verbose),
+                &NamedFile::against(&comparison.against, *verbose, *format),
                 files,
                 &mut kept,
                 err,
             )?;
         }
-        Request::Ask { file, verbose, .. } => {
+        Request::Ask {
+            file,
+            verbose,
+            format,
+            ..
+        }
+        | Request::Cover {
+            file,
+            verbose,
+            format,
+            ..
+        } => {
             keep(
                 alloc,
-                &NamedFile::source(file.as_str(), *verbose),
+                &NamedFile::source(file.as_str(), *verbose, *format),
                 files,
                 &mut kept,
                 err,
@@ -261,4 +279,22 @@ pub(crate) fn keep_files<F: Files, E: Write>(
         Request::Explain { .. } | Request::ExplainEnd { .. } => {}
     }
     Ok(kept)
+}
+
+/// Reads sources. If one can't be read, the error is the exit status, and the reason is reported on standard error.
+pub(crate) fn keep_sources<F: Files, E: Write>(
+    alloc: Global,
+    names: &[String],
+    files: &F,
+    err: &mut E,
+) -> Result<Vec<KeptFile>, u8>
+    ensures read { IfOk result (λ kept. AreReadFrom None (F.contents files.now) kept.items) }
+    ensures status { IfErr result (λ s. (s ≡ 2) ⊎ (s ≡ 4)) }
+{
+    let mut sources = Vec::new(alloc);
+    'names: for name in names {
+        let source = NamedFile::source(name.as_str(), false, Format::Plain);
+        keep(alloc, &source, files, &mut sources, err)?;
+    }
+    Ok(sources)
 }

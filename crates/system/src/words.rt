@@ -1,15 +1,19 @@
 //! Answers the words of a command line.
 
-ghost use Rattle.std.specs.Prelude.{◌≡◌, ◌≤◌, [], List, Some, map, ℕ};
+ghost use Rattle.std.specs.Prelude.{◌≡◌, ◌≤◌, [], List, None, Some, map, ℕ};
 ghost use Rattle.std.specs.Io.KnownBytes.{Appends};
-ghost use Rattle.command.specs.Asked.{Refuses};
+ghost use Rattle.command.specs.Tests.{RefusesJob, WantJob};
+ghost use Rattle.serving.specs.Files.{Contents};
 ghost use Rattle.system.specs.Kept.{AreKnown, AreReadFrom, kept_in};
-ghost use Rattle.system.specs.Words.{AnswersWords, AreReadFor, IsServed};
+ghost use Rattle.system.specs.Served.{IsServed};
+ghost use Rattle.system.specs.Tests.{AnswersTests};
+ghost use Rattle.system.specs.Words.{AnswersWords, AreReadFor};
 
-use crate::kept::{KeptFile, KeptFiles, keep_files};
+use crate::kept::{KeptFile, KeptFiles, keep_files, keep_sources};
 use crate::recorder::{Begun, Recorder};
 use crate::sent::Sent;
-use command::{Asked, UsageFault, command};
+use crate::tests::serve_tests;
+use command::{Asked, Job, Tests, UsageFault, job};
 use serving::{Files, serve_asked, tell_usage};
 use std::alloc::Global;
 use std::io::{IsTerminal, Write};
@@ -18,20 +22,20 @@ use std::sync::Wait;
 use std::thread::Threads;
 use std::time::Clock;
 
-/// What was answered to words.
+/// The answer to words.
 #[derive(Drop)]
 pub struct Answer<W> {
     /// The exit status.
     pub status: u8,
-    /// What was printed, for proofs alone.
+    /// The printed text, for proofs alone.
     pub printed: Sent,
     /// The files that were read.
     pub files: Vec<KeptFile>,
-    /// Where it was printed.
+    /// The writer to which it was printed.
     pub out: W,
 }
 
-/// What was answered, but for the files.
+/// An answer without the files.
 #[derive(Drop)]
 struct Served<W> {
     status: u8,
@@ -39,7 +43,7 @@ struct Served<W> {
     out: W,
 }
 
-/// Does what is asked, over files that are kept.
+/// Answers a request over kept files.
 fn serve_kept<
     B: Begun,
     H: Threads + Wait + Clock + Sync,
@@ -63,7 +67,7 @@ fn serve_kept<
     }
 }
 
-/// Tells help, or why words are not a request.
+/// Prints help, or reports why words are not a request.
 fn tell_recorded<B: Begun, W: Write + Drop, E: Write>(
     fault: &UsageFault,
     out: W,
@@ -71,8 +75,8 @@ fn tell_recorded<B: Begun, W: Write + Drop, E: Write>(
 ) -> Served<W>
     requires begun { W.contents out ≡ B.begun }
     ensures status { result.status ≤ 5 }
-    ensures answer { (words : List (List ℕ)) → Refuses words fault.now
-        → AnswersWords words (kept_in []) result.status (Some []) (Some result.printed.bytes) }
+    ensures answer { (all : Contents) → (words : List (List ℕ)) → RefusesJob words fault.now
+        → AnswersWords all words (kept_in []) result.status (Some []) (Some result.printed.bytes) }
     ensures passed { Appends B.begun (W.contents result.out) result.printed.bytes }
 {
     let mut out: Recorder<W, B> = Recorder::new(out);
@@ -85,9 +89,9 @@ fn tell_recorded<B: Begun, W: Write + Drop, E: Write>(
     }
 }
 
-/// Reads the files that a request names, and does what it asks over them. If one can't be read, says so and prints
+/// Reads the files that a request names, and answers the request over them. If one can't be read, reports it and prints
 /// nothing.
-fn serve_request<
+pub(crate) fn serve_request<
     H: Threads + Wait + Clock + Sync,
     F: Files,
     W: Write + Drop,
@@ -97,7 +101,7 @@ fn serve_request<
     ensures answer { IsServed asked.now (kept_in result.files.items) result.status (Some [])
         (Some result.printed.bytes) }
     ensures passed { Appends (W.contents out) (W.contents result.out) result.printed.bytes }
-    ensures read { AreReadFrom asked.now.request (F.contents files.now) result.files.items }
+    ensures read { AreReadFrom (Some asked.now.request) (F.contents files.now) result.files.items }
 {
     match keep_files(alloc, &asked.request, files, err) {
         Ok(files) => {
@@ -119,7 +123,7 @@ fn serve_request<
     }
 }
 
-/// Tells help, or why words are not a request.
+/// Prints help, or reports why words are not a request.
 fn tell_fault<W: Write + Drop, E: Write>(
     alloc: Global,
     fault: &UsageFault,
@@ -127,8 +131,8 @@ fn tell_fault<W: Write + Drop, E: Write>(
     err: &mut E,
 ) -> Answer<W>
     ensures status { result.status ≤ 5 }
-    ensures answer { (words : List (List ℕ)) → Refuses words fault.now
-        → AnswersWords words (kept_in result.files.items) result.status (Some []) (Some result.printed.bytes) }
+    ensures answer { (all : Contents) → (words : List (List ℕ)) → RefusesJob words fault.now
+        → AnswersWords all words (kept_in result.files.items) result.status (Some []) (Some result.printed.bytes) }
     ensures passed { Appends (W.contents out) (W.contents result.out) result.printed.bytes }
     ensures files { result.files.items ≡ [] }
 {
@@ -141,9 +145,96 @@ fn tell_fault<W: Write + Drop, E: Write>(
     }
 }
 
-/// Reads the words of a command line, the program's own name first, and does what they ask, as `serve_asked` does, over
-/// files that are read first. Help and the version go to `out`; what is wrong with words goes to `err`, with the status
-/// 2, as does why a file can't be read.
+/// Tests kept files.
+fn test_kept<B: Begun, H: Threads + Wait + Clock + Sync, F: Files, W: Write + Drop, E: Write>(
+    rt: &H,
+    alloc: Global,
+    tests: &Tests,
+    kept: &[KeptFile],
+    files: &F,
+    out: W,
+    err: &mut E,
+) -> Served<W>
+    requires begun { W.contents out ≡ B.begun }
+    ensures status { result.status ≤ 5 }
+    ensures answer { AnswersTests (F.contents files.now) tests.now (kept_in kept.now) result.status }
+    ensures passed { Appends B.begun (W.contents result.out) result.printed.bytes }
+{
+    let mut out: Recorder<W, B> = Recorder::new(out);
+    let status = serve_tests(rt, alloc, tests, kept, files, &mut out, err);
+    let (printed, out) = out.into_parts();
+    Served {
+        status,
+        printed,
+        out,
+    }
+}
+
+/// Reads files and tests them. If one can't be read, reports it and prints nothing.
+fn test<H: Threads + Wait + Clock + Sync, F: Files, W: Write + Drop, E: Write>(
+    rt: &H,
+    alloc: Global,
+    tests: &Tests,
+    files: &F,
+    out: W,
+    err: &mut E,
+) -> Answer<W>
+    ensures status { result.status ≤ 5 }
+    ensures answer { AnswersTests (F.contents files.now) tests.now (kept_in result.files.items) result.status }
+    ensures passed { Appends (W.contents out) (W.contents result.out) result.printed.bytes }
+    ensures read { AreReadFrom None (F.contents files.now) result.files.items }
+{
+    match keep_sources(alloc, tests.files.as_slice(), files, err) {
+        Ok(kept) => {
+            let served = test_kept::<Brand, H, F, W, E>(
+                rt,
+                alloc,
+                tests,
+                kept.as_slice(),
+                files,
+                out,
+                err,
+            );
+            Answer {
+                status: served.status,
+                printed: served.printed,
+                files: kept,
+                out: served.out,
+            }
+        }
+        Err(status) => Answer {
+            status,
+            printed: Sent::new(),
+            files: Vec::new(alloc),
+            out,
+        },
+    }
+}
+
+/// Does the job that words request.
+fn serve_job<
+    H: Threads + Wait + Clock + Sync,
+    F: Files,
+    W: Write + Drop,
+    E: Write + IsTerminal + Send,
+>(rt: &H, alloc: Global, job: &Job, files: &F, out: W, err: &mut E) -> Answer<W>
+    ensures status { result.status ≤ 5 }
+    ensures answer { (words : List (List ℕ)) → WantJob words job.now
+        → AnswersWords (F.contents files.now) words (kept_in result.files.items) result.status (Some [])
+        (Some result.printed.bytes) }
+    ensures passed { Appends (W.contents out) (W.contents result.out) result.printed.bytes }
+    ensures read { (words : List (List ℕ)) → WantJob words job.now
+        → AreReadFor words (F.contents files.now) result.files.items }
+{
+    match job {
+        Job::Serve(asked) => serve_request(rt, alloc, asked, files, out, err),
+        Job::Test(tests) => test(rt, alloc, tests, files, out, err),
+    }
+}
+
+/// Reads the words of a command line, the program's own name first, and answers them, as `serve_asked` does, over
+/// files that are read first. Help and the version go to `out`. Invalid words are reported on `err` with the status 2,
+/// and so is a file that can't be read.
 pub fn serve_words<
     H: Threads + Wait + Clock + Sync,
     F: Files,
@@ -151,13 +242,13 @@ pub fn serve_words<
     E: Write + IsTerminal + Send,
 >(rt: &H, alloc: Global, words: &[&str], files: &F, out: W, err: &mut E) -> Answer<W>
     ensures status { result.status ≤ 5 }
-    ensures answer { AnswersWords (map (λ w. w.now) words.now) (kept_in result.files.items) result.status
-        (Some []) (Some result.printed.bytes) }
+    ensures answer { AnswersWords (F.contents files.now) (map (λ w. w.now) words.now) (kept_in result.files.items)
+        result.status (Some []) (Some result.printed.bytes) }
     ensures passed { Appends (W.contents out) (W.contents result.out) result.printed.bytes }
     ensures read { AreReadFor (map (λ w. w.now) words.now) (F.contents files.now) result.files.items }
 {
-    match command(alloc, words) {
-        Ok(asked) => serve_request(rt, alloc, &asked, files, out, err),
+    match job(alloc, words) {
+        Ok(job) => serve_job(rt, alloc, &job, files, out, err),
         Err(fault) => tell_fault(alloc, &fault, out, err),
     }
 }

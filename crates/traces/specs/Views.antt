@@ -14,11 +14,13 @@ module _ {A : Type 0} where
   turn_of t = record {
     thread = t.thread;
     is_idle = t.is_idle;
+    is_cancelled = t.is_cancelled;
     marks = t.marks;
     printed = t.printed;
     status = t.status;
     at = t.at;
     words = t.words;
+    fold = t.fold;
   }
 
   abbrev pub thread_at_of : ThreadAt A → plain.ThreadAt

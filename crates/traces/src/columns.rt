@@ -150,6 +150,21 @@ fn push_column_at<A: Allocator + Copy>(
     columns.push(column_at(alloc, names, first, turns, cell)?)
 }
 
+/// How many bytes the columns of a trace take in a line, as far as a `usize` can count them.
+pub fn columns_width<A: Allocator + Copy>(
+    alloc: A,
+    names: &[Named<A>],
+    first: &[u64],
+    turns: &[TurnShown<A>],
+) -> Result<usize, AllocError> {
+    let columns = columns_of(alloc, names, first, turns)?;
+    let mut width: usize = 0;
+    'columns: for column in columns.as_slice() {
+        width = width.saturating_add(column.width).saturating_add(1);
+    }
+    Ok(width)
+}
+
 /// The columns of a trace: one for each cell that some turn reads or writes.
 pub(crate) fn columns_of<A: Allocator + Copy>(
     alloc: A,

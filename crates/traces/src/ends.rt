@@ -57,7 +57,7 @@ fn push_end_line<A: Allocator>(
 }
 
 /// Adds the lines of threads.
-pub(crate) fn push_ends<A: Allocator>(
+pub fn push_ends<A: Allocator>(
     text: &mut Vec<u8, A>,
     threads: &[ThreadAt<A>],
 ) -> Result<(), AllocError>

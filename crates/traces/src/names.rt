@@ -101,7 +101,7 @@ fn name_of_cell<A: Allocator + Copy>(
 }
 
 /// The name and the type of a cell.
-pub(crate) fn named_cell<A: Allocator + Copy>(
+pub fn named_cell<A: Allocator + Copy>(
     alloc: A,
     names: &[Named<A>],
     cell: usize,

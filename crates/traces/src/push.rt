@@ -3,7 +3,9 @@
 ghost use Rattle.std.specs.Prelude.{◌≡◌, ◌++◌, OnOk, decimal, flat_map, replicate};
 ghost use Rattle.syntax.specs.Numbers.{trap_number};
 ghost use Rattle.traces.specs.Columns.{value_text};
-ghost use Rattle.traces.specs.Trace.{column_text, first_columns, printed_words, quoted_byte, to_left, to_right};
+ghost use Rattle.std.specs.List.{list_all};
+ghost use Rattle.traces.specs.Trace.{are_blanks, cancelled_words, column_text, first_columns, line_text};
+ghost use Rattle.traces.specs.Trace.{printed_words, quoted_byte, to_left, to_right, trimmed};
 
 use itoa::Buffer;
 use lex::token::Scalar;
@@ -21,17 +23,14 @@ pub(crate) fn push_bytes<A: Allocator>(
 }
 
 /// Adds a number.
-pub(crate) fn push_number<A: Allocator>(
-    text: &mut Vec<u8, A>,
-    number: u64,
-) -> Result<(), AllocError>
+pub fn push_number<A: Allocator>(text: &mut Vec<u8, A>, number: u64) -> Result<(), AllocError>
     ensures { OnOk result (text.new.items ≡ text.old.items ++ decimal number) }
 {
     push_bytes(text, Buffer::new().format(number).as_bytes())
 }
 
 /// Adds the number that a word denotes.
-pub(crate) fn push_value<A: Allocator>(
+pub fn push_value<A: Allocator>(
     text: &mut Vec<u8, A>,
     ty: Scalar,
     word: u64,
@@ -39,6 +38,34 @@ pub(crate) fn push_value<A: Allocator>(
     ensures { OnOk result (text.new.items ≡ text.old.items ++ value_text ty word) }
 {
     push_bytes(text, Buffer::new().format(number(ty, word)).as_bytes())
+}
+
+/// Whether a text consists of blanks.
+fn are_blanks(bytes: &[u8]) -> bool
+    ensures { result ≡ are_blanks bytes.now }
+{
+    bytes.iter().all(|byte| *byte == b' ')
+}
+
+/// Adds a text without the blanks at its end.
+fn push_trimmed<A: Allocator>(text: &mut Vec<u8, A>, bytes: &[u8]) -> Result<(), AllocError>
+    ensures { OnOk result (text.new.items ≡ text.old.items ++ trimmed bytes.now) }
+{
+    'bytes: for at in 0..bytes.len() {
+        if are_blanks(&bytes[at..]) {
+            return Ok(());
+        }
+        text.push(bytes[at])?;
+    }
+    Ok(())
+}
+
+/// Adds a text as a line, without the blanks at its end.
+pub(crate) fn push_line<A: Allocator>(text: &mut Vec<u8, A>, bytes: &[u8]) -> Result<(), AllocError>
+    ensures { OnOk result (text.new.items ≡ text.old.items ++ line_text bytes.now) }
+{
+    push_trimmed(text, bytes)?;
+    push_bytes(text, b"\n")
 }
 
 /// Adds so many blanks.
@@ -120,13 +147,27 @@ fn push_quoted_byte<A: Allocator>(text: &mut Vec<u8, A>, byte: u8) -> Result<(),
 }
 
 /// Adds the bytes of a text in quotes.
-fn push_quoted<A: Allocator>(text: &mut Vec<u8, A>, bytes: &[u8]) -> Result<(), AllocError>
+pub fn push_quoted<A: Allocator>(text: &mut Vec<u8, A>, bytes: &[u8]) -> Result<(), AllocError>
     ensures { OnOk result (text.new.items ≡ text.old.items ++ flat_map quoted_byte bytes.now) }
 {
     'bytes: for byte in bytes {
         push_quoted_byte(text, *byte)?;
     }
     Ok(())
+}
+
+/// Adds whether a turn's transaction was cancelled, if so.
+pub(crate) fn push_cancelled<A: Allocator>(
+    text: &mut Vec<u8, A>,
+    is_cancelled: bool,
+) -> Result<(), AllocError>
+    ensures { OnOk result (text.new.items ≡ text.old.items ++ cancelled_words is_cancelled) }
+{
+    if is_cancelled {
+        push_bytes(text, b"  cancelled")
+    } else {
+        Ok(())
+    }
 }
 
 /// Adds what a turn prints.

@@ -24,12 +24,21 @@ pub struct Mark {
     pub is_written: bool,
 }
 
+/// So many turns at the end of which a turn stands, which come so many times one after another; they are shown once.
+#[derive(Clone, Copy)]
+pub struct Fold {
+    pub period: u64,
+    pub times: u64,
+}
+
 /// A turn of a thread: an outermost transaction, and what the thread does up to the next one.
 #[derive(Drop)]
 pub struct TurnShown<A: Allocator = std::alloc::Global> {
     pub thread: u32,
     /// Whether the thread had terminated before, so that nothing happens.
     pub is_idle: bool,
+    /// Whether the transaction was cancelled.
+    pub is_cancelled: bool,
     /// In the order of their cells.
     pub marks: Items<Mark, A>,
     /// The bytes that the thread prints.
@@ -40,6 +49,8 @@ pub struct TurnShown<A: Allocator = std::alloc::Global> {
     pub at: Items<u8, A>,
     /// The first words of the transaction there.
     pub words: Items<u8, A>,
+    /// The turns that end with this one and come again, if they do.
+    pub fold: Option<Fold>,
 }
 
 /// A thread after the last turn.

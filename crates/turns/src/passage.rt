@@ -1,9 +1,9 @@
 //! Transactions in a source: where each begins, and its first words.
 
-use itoa::Buffer;
 use lex::place;
 use lex::token::{Kind, Punctuator, Span, Token};
 use std::alloc::{AllocError, Allocator};
+use traces::push_number;
 
 /// The most bytes of a transaction's first words.
 const MOST_SHOWN: usize = 40;
@@ -15,11 +15,6 @@ pub struct Source<'a> {
     pub tokens: &'a [Token<'a>],
 }
 
-/// Adds a number.
-fn push_number<A: Allocator>(to: &mut Vec<u8, A>, number: usize) -> Result<(), AllocError> {
-    to.extend_from_slice(Buffer::new().format(number as u64).as_bytes())
-}
-
 /// Adds the line and the column of an offset, with a colon between them.
 pub fn push_place<A: Allocator>(
     to: &mut Vec<u8, A>,
@@ -27,13 +22,13 @@ pub fn push_place<A: Allocator>(
     offset: usize,
 ) -> Result<(), AllocError> {
     let (line, column) = place(text, offset.min(text.len()));
-    push_number(to, line)?;
+    push_number(to, line as u64)?;
     to.extend_from_slice(b":")?;
-    push_number(to, column)
+    push_number(to, column as u64)
 }
 
 /// Whether a token opens a bracket.
-fn opens(kind: Kind<'_>) -> bool {
+pub(crate) fn opens(kind: Kind<'_>) -> bool {
     matches!(
         kind,
         Kind::Punctuator(Punctuator::OpenBrace | Punctuator::OpenParen | Punctuator::OpenBracket)
@@ -41,14 +36,15 @@ fn opens(kind: Kind<'_>) -> bool {
 }
 
 /// Whether a token closes a bracket.
-fn closes(kind: Kind<'_>) -> bool {
+pub(crate) fn closes(kind: Kind<'_>) -> bool {
     matches!(
         kind,
         Kind::Punctuator(Punctuator::CloseBrace | Punctuator::CloseParen | Punctuator::CloseBracket)
     )
 }
 
-/// Whether a token after a transaction's keyword opens its body: a brace does, and a parenthesis right after the keyword.
+/// Whether a token after a transaction's keyword opens its body: a brace does, and a parenthesis directly after the
+/// keyword.
 fn opens_body(kind: Kind<'_>, is_next: bool) -> bool {
     match kind {
         Kind::Punctuator(Punctuator::OpenBrace) => true,
@@ -58,7 +54,7 @@ fn opens_body(kind: Kind<'_>, is_next: bool) -> bool {
 }
 
 /// The tokens after the one that begins at an offset.
-fn tokens_after<'a>(tokens: &'a [Token<'a>], offset: usize) -> &'a [Token<'a>] {
+pub(crate) fn tokens_after<'a>(tokens: &'a [Token<'a>], offset: usize) -> &'a [Token<'a>] {
     'tokens: for number in 0..tokens.len() {
         if tokens[number].span.start == offset {
             return tokens.get(number + 1..tokens.len()).unwrap_or(&[]);
@@ -68,7 +64,7 @@ fn tokens_after<'a>(tokens: &'a [Token<'a>], offset: usize) -> &'a [Token<'a>] {
 }
 
 /// The tokens from a transaction's body on, among those after its keyword.
-fn body_on<'a>(tokens: &'a [Token<'a>]) -> &'a [Token<'a>] {
+pub(crate) fn body_on<'a>(tokens: &'a [Token<'a>]) -> &'a [Token<'a>] {
     'tokens: for number in 0..tokens.len() {
         if opens_body(tokens[number].kind, number == 0) {
             return tokens.get(number + 1..tokens.len()).unwrap_or(&[]);
@@ -95,7 +91,7 @@ fn push_token<A: Allocator>(
 }
 
 /// Whether a token ends a body of which so many inner brackets are open.
-fn ends_body(kind: Kind<'_>, depth: usize) -> bool {
+pub(crate) fn ends_body(kind: Kind<'_>, depth: usize) -> bool {
     depth == 0 && closes(kind)
 }
 
@@ -110,7 +106,8 @@ fn is_last_semicolon(kind: Kind<'_>, next: Option<&Token<'_>>, depth: usize) -> 
     }
 }
 
-/// Adds the first words of a body, with a blank for whatever is between them, and ` ..` if there are more.
+/// Adds the first words of a body, with a blank for whatever is between them, and ` ..` if there are more. A first word
+/// that is too long is cut.
 fn push_body<A: Allocator>(
     to: &mut Vec<u8, A>,
     text: &str,
@@ -133,6 +130,9 @@ fn push_body<A: Allocator>(
         let bytes = bytes_at(text, token.span);
         let is_apart = end.is_some() && end != Some(token.span.start);
         if bytes.len() >= room {
+            if end.is_none() {
+                to.extend_from_slice(bytes.get(0..room).unwrap_or(bytes))?;
+            }
             return to.extend_from_slice(b" ..");
         }
         push_token(to, bytes, is_apart)?;

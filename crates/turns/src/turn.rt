@@ -1,10 +1,11 @@
 //! One turn.
 
+use crate::inner::{Inner, Nested, start_at};
 use crate::passage::{Source, push_passage, push_place};
 use bytecode::Code;
 use containers::Items;
 use norec_core::Access;
-use std::alloc::{AllocError, Allocator};
+use std::alloc::{AllocError, Allocator, Global};
 use syntax::thread_end::Status;
 use traces::{Touched, TurnShown, marks_of};
 use world::World;
@@ -42,12 +43,15 @@ fn untouched<A: Allocator + Copy>(alloc: A, count: usize) -> Result<Touched<A>, 
     })
 }
 
-/// Makes the steps of a turn, and notes the cells that they read and write. The place is that of the first step.
+/// Makes the steps of a turn, and notes the cells that they read and write, and the transactions that they begin and end.
+/// The place is that of the first step.
 fn make_steps<A: Allocator + Copy>(
+    code: &Code<A>,
     world: &mut World<A>,
     t: u32,
     count: u32,
     touched: &mut Touched<A>,
+    nested: &mut Nested<A>,
 ) -> Result<Option<u32>, AllocError> {
     let mut place = None;
     'steps: for made in 0..count {
@@ -61,24 +65,22 @@ fn make_steps<A: Allocator + Copy>(
             place = Some(shown.place);
         }
         note(touched, shown.access);
+        nested.note(code, shown, made == 0)?;
     }
     Ok(place)
 }
 
-/// The line and the column of a place in a code, and the first words of the transaction there.
+/// The line and the column of an offset, and the first words of the transaction there.
 fn passage_of<A: Allocator + Copy>(
     alloc: A,
-    code: &Code<A>,
     source: Source<'_>,
-    place: Option<u32>,
+    start: Option<usize>,
 ) -> Result<(Items<u8, A>, Items<u8, A>), AllocError> {
     let mut at = Vec::new(alloc);
     let mut words = Vec::new(alloc);
-    if let Some(place) = place {
-        if let Some(span) = code.span_at(place as usize) {
-            push_place(&mut at, source.text, span.start)?;
-            push_passage(&mut words, source, span.start)?;
-        }
+    if let Some(start) = start {
+        push_place(&mut at, source.text, start)?;
+        push_passage(&mut words, source, start)?;
     }
     Ok((Items::from_vec(at), Items::from_vec(words)))
 }
@@ -108,13 +110,22 @@ pub(crate) fn status_of<A: Allocator + Copy>(world: &World<A>, t: u32) -> Status
     }
 }
 
-/// What a thread has printed; one that there is not has printed nothing.
+/// The output of a thread, which is empty if there is no such thread.
 fn output_of<A: Allocator + Copy>(world: &World<A>, t: u32) -> &str {
     if t < world.threads() {
         world.output(t)
     } else {
         ""
     }
+}
+
+/// What is shown of a turn in full, beside its line.
+#[derive(Drop)]
+pub(crate) struct Details<A: Allocator = Global> {
+    /// The offset of its transaction, if there is one.
+    pub start: Option<usize>,
+    /// The transactions inside it.
+    pub inner: Vec<Inner, A>,
 }
 
 /// Makes a turn of a thread, which takes so many steps, and shows it.
@@ -125,21 +136,77 @@ pub(crate) fn turn_shown<A: Allocator + Copy>(
     world: &mut World<A>,
     t: u32,
     count: u32,
-) -> Result<TurnShown<A>, AllocError> {
+) -> Result<(TurnShown<A>, Details<A>), AllocError> {
     let found = Vec::from_slice(alloc, world.words())?;
     let before = output_of(world, t).len();
     let mut touched = untouched(alloc, found.len())?;
-    let place = make_steps(world, t, count, &mut touched)?;
+    let mut nested = Nested::new(alloc);
+    let place = make_steps(code, world, t, count, &mut touched, &mut nested)?;
+    let start = match place {
+        Some(place) => start_at(code, place),
+        None => None,
+    };
     let marks = marks_of(alloc, &touched, found.as_slice(), world.words())?;
     let printed = bytes_after(alloc, output_of(world, t), before)?;
-    let (at, words) = passage_of(alloc, code, source, place)?;
-    Ok(TurnShown {
+    let (at, words) = passage_of(alloc, source, start)?;
+    let shown = TurnShown {
         thread: t,
         is_idle: count == 0,
+        is_cancelled: nested.is_cancelled,
         marks,
         printed,
         status: status_of(world, t),
         at,
         words,
-    })
+        fold: None,
+    };
+    let details = Details {
+        start,
+        inner: nested.inner,
+    };
+    Ok((shown, details))
+}
+
+/// Makes the first steps of a thread, up to its first transaction. They are shown if it prints or terminates there.
+pub(crate) fn begin_shown<A: Allocator + Copy>(
+    alloc: A,
+    world: &mut World<A>,
+    t: u32,
+    count: u32,
+) -> Result<Option<TurnShown<A>>, AllocError> {
+    make_first_steps(world, t, count)?;
+    let printed = bytes_after(alloc, output_of(world, t), 0)?;
+    let status = status_of(world, t);
+    if printed.is_empty() && status == Status::Running {
+        return Ok(None);
+    }
+    let words = Vec::from_slice(alloc, b"begins")?;
+    Ok(Some(TurnShown {
+        thread: t,
+        is_idle: false,
+        is_cancelled: false,
+        marks: Items::new(alloc),
+        printed,
+        status,
+        at: Items::new(alloc),
+        words: Items::from_vec(words),
+        fold: None,
+    }))
+}
+
+/// Makes so many steps of a thread.
+fn make_first_steps<A: Allocator + Copy>(
+    world: &mut World<A>,
+    t: u32,
+    count: u32,
+) -> Result<(), AllocError> {
+    'steps: for _ in 0..count {
+        if t >= world.threads() {
+            return Err(AllocError); // never so: each line of a schedule names a thread
+        }
+        let Ok(_) = world.step(t) else {
+            return Err(AllocError);
+        };
+    }
+    Ok(())
 }

@@ -1,7 +1,7 @@
 //! The turns of an order.
 
 use crate::passage::Source;
-use crate::turn::{status_of, turn_shown};
+use crate::turn::{Details, begin_shown, status_of, turn_shown};
 use bytecode::Code;
 use containers::Items;
 use replay::Line;
@@ -15,32 +15,30 @@ use world::World;
 pub struct Traced<A: Allocator = Global> {
     /// The memory before the first turn.
     pub first: Vec<u64, A>,
+    /// What threads do before their first turns, of those that print or terminate there.
+    pub begun: Items<TurnShown<A>, A>,
     pub turns: Items<TurnShown<A>, A>,
+    /// What else is shown of each turn in full.
+    pub(crate) details: Items<Details<A>, A>,
     /// The memory after the last turn.
     pub last: Vec<u64, A>,
     /// How each thread is after the last turn.
     pub ends: Vec<Status, A>,
 }
 
-/// Makes the steps of a line.
-fn make_line<A: Allocator + Copy>(world: &mut World<A>, line: Line) -> Result<(), AllocError> {
-    'steps: for _ in 0..line.count {
-        if line.thread >= world.threads() {
-            return Err(AllocError); // never so: each line of a schedule names a thread
-        }
-        let Ok(_) = world.step(line.thread) else {
-            return Err(AllocError);
-        };
-    }
-    Ok(())
-}
-
-/// Makes the steps of lines.
-fn make_lines<A: Allocator + Copy>(world: &mut World<A>, lines: &[Line]) -> Result<(), AllocError> {
+/// Makes the steps of lines that bring threads to their first transactions, and shows what happens there.
+fn begun_of<A: Allocator + Copy>(
+    alloc: A,
+    world: &mut World<A>,
+    lines: &[Line],
+) -> Result<Items<TurnShown<A>, A>, AllocError> {
+    let mut begun = Items::new(alloc);
     'lines: for line in lines {
-        make_line(world, *line)?;
+        if let Some(turn) = begin_shown(alloc, world, line.thread, line.count)? {
+            begun.push(turn)?;
+        }
     }
-    Ok(())
+    Ok(begun)
 }
 
 /// Makes the turns of lines, and shows each.
@@ -50,13 +48,15 @@ fn turns_of<A: Allocator + Copy>(
     source: Source<'_>,
     world: &mut World<A>,
     lines: &[Line],
-) -> Result<Items<TurnShown<A>, A>, AllocError> {
+) -> Result<(Items<TurnShown<A>, A>, Items<Details<A>, A>), AllocError> {
     let mut turns = Items::new(alloc);
+    let mut all = Items::new(alloc);
     'lines: for line in lines {
-        let turn = turn_shown(alloc, code, source, world, line.thread, line.count)?;
+        let (turn, details) = turn_shown(alloc, code, source, world, line.thread, line.count)?;
         turns.push(turn)?;
+        all.push(details)?;
     }
-    Ok(turns)
+    Ok((turns, all))
 }
 
 /// How the threads of a world are.
@@ -68,8 +68,8 @@ fn ends_of<A: Allocator + Copy>(alloc: A, world: &World<A>) -> Result<Vec<Status
     Ok(ends)
 }
 
-/// Shows the turns of an order of so many threads of a code, by the schedule of the order: a line that brings each thread
-/// to its first transaction, and one for each turn. The places are those of the source.
+/// Shows the turns of an order of so many threads of a code, by the schedule of the order: a line that brings each
+/// thread to its first transaction, and one for each turn. The places are those of the source.
 pub fn turns_shown<A: Allocator + Copy>(
     alloc: A,
     code: &Code<A>,
@@ -80,15 +80,17 @@ pub fn turns_shown<A: Allocator + Copy>(
     let Ok(mut world) = World::new(alloc, code, threads) else {
         return Err(AllocError);
     };
-    let (begun, taken) = lines.split_at((threads as usize).min(lines.len()));
-    make_lines(&mut world, begun)?;
+    let (starts, taken) = lines.split_at((threads as usize).min(lines.len()));
+    let begun = begun_of(alloc, &mut world, starts)?;
     let first = Vec::from_slice(alloc, world.words())?;
-    let turns = turns_of(alloc, code, source, &mut world, taken)?;
+    let (turns, details) = turns_of(alloc, code, source, &mut world, taken)?;
     let last = Vec::from_slice(alloc, world.words())?;
     let ends = ends_of(alloc, &world)?;
     Ok(Traced {
         first,
+        begun,
         turns,
+        details,
         last,
         ends,
     })

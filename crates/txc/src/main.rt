@@ -1,4 +1,4 @@
-//! The program: reads its words, and does what they ask with files of the system.
+//! The program: reads its words, and answers them over files of the system.
 #![tactic(auto)]
 
 ghost use Rattle.std.specs.Prelude.{◌≡◌, ◌≤◌, [], IfOk, None, Some, map, string_bytes};
@@ -59,7 +59,7 @@ fn lent<'w>(alloc: Global, words: &'w [String]) -> Result<Vec<&'w str>, AllocErr
     Ok(all)
 }
 
-/// Does what words ask, over files and two writers: the exit status, what was printed, and the files that were read.
+/// Answers words over files and two writers. Returns the exit status, the printed text, and the files that were read.
 fn answer<
     H: Threads + Wait + Clock + Sync,
     F: Files,
@@ -67,8 +67,8 @@ fn answer<
     E: Write + IsTerminal + Send,
 >(handle: &H, alloc: Global, words: &[String], files: &F, out: W, err: &mut E) -> Answer<W>
     ensures status { result.status ≤ 5 }
-    ensures answer { AnswersWords (map string_bytes words.now) (kept_in result.files.items) result.status
-        (Some []) (Some result.printed.bytes) }
+    ensures answer { AnswersWords (F.contents files.now) (map string_bytes words.now) (kept_in result.files.items)
+        result.status (Some []) (Some result.printed.bytes) }
     ensures passed { Appends (W.contents out) (W.contents result.out) result.printed.bytes }
     ensures read { AreReadFor (map string_bytes words.now) (F.contents files.now) result.files.items }
 {

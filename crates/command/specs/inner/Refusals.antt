@@ -5,10 +5,12 @@ use Rattle.clap.specs.declared.error.Error.{Error}
 use Rattle.clap.specs.declared.error.kind.ErrorKind.TheVariants.{DisplayHelp, DisplayVersion}
 use Rattle.clap.specs.declared.error.kind.ErrorKind.TheVariants as kind
 use Rattle.command.specs.declared.request.Asked.{Asked}
+use Rattle.command.specs.declared.request.Job.{Job}
 use Rattle.command.specs.declared.request.Request.{Request}
 use Rattle.command.specs.declared.request.Task.{Task}
 use Rattle.command.specs.declared.request.UsageFault.{UsageFault}
 use Rattle.command.specs.declared.request.UsageFault.TheVariants.{OutOfMemory, Help, Wrong}
+use Rattle.command.specs.Tests.{IsJob}
 use Rattle.command.specs.Asked.{IsCommanded, IsNumberInRange, IsRequest, IsTask}
 
 -- no help: words that the command line accepts, and that are refused because this holds, or an allocation failure
@@ -43,3 +45,10 @@ pub record HasGiven (met : Option (Text × List Row)) (asked : Asked) : Type 0 w
   pub given : List Row
   pub command : met ≡ Some (name, given)
   pub made : IsCommanded name given asked
+
+-- the words name a command that requests this job with its arguments
+pub record HasJob (met : Option (Text × List Row)) (job : Job) : Type 0 where
+  pub name : Text
+  pub given : List Row
+  pub command : met ≡ Some (name, given)
+  pub made : IsJob name given job

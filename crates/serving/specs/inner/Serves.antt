@@ -2,8 +2,10 @@
 use Rattle.std.specs.Prelude.{◌≡◌, ◌≤◌, ◌++◌, ℕ, List, Option, IfSome}
 use Rattle.command.specs.declared.request.Claim.{Claim}
 use Rattle.command.specs.declared.request.Comparison.{Comparison}
+use Rattle.command.specs.declared.request.Coverage.{Coverage}
 use Rattle.command.specs.declared.request.Questions.{Questions}
 use Rattle.command.specs.declared.request.Task.{Task}
+use Rattle.report.specs.Coverings.{CoveredProperty}
 use Rattle.report.specs.OutcomeList.{ReportedOrder}
 use Rattle.report.specs.Printed.{Printed}
 use Rattle.report.specs.Properties.{Property}
@@ -12,6 +14,7 @@ use Rattle.report.specs.declared.outcome_list.WalkEnd.{WalkEnd}
 use Rattle.serving.specs.Answers.{Answers}
 use Rattle.serving.specs.Certified.{CertifiesReport, SaysSo, ShowsDifference, WritesVerdict}
 use Rattle.serving.specs.Compared.{ComparesOutcomes, HaveNoCode, WritesComparison}
+use Rattle.serving.specs.Coverings.{AnswersCoverage, IsCoverageOf, IsTextOfCoverings, TellsCoverings}
 use Rattle.serving.specs.Expected.{SaysExpected, ShowsUnexpected}
 use Rattle.serving.specs.InTurn.{AreTextsInTurn, SaysInTurn}
 use Rattle.serving.specs.Limits.{HasNoCode}
@@ -22,8 +25,9 @@ use Rattle.serving.specs.Verdicts.{IsEither, Tells}
 use Rattle.serving.specs.Written.{IsAskedFor, WritesPart}
 use Rattle.serving.specs.inner.Printing.{PrintsBehind, PrintsShown}
 
--- The status is at most so much; for what was printed it means this: the bytes that the writer had, if they are known,
--- and those that it has then; with 1 a text is refused, and nothing is printed; and this is written for any status.
+-- The status is at most this number. It means this for the printed text: the bytes that the writer had, if they are
+-- known, and those that it has then. If it is 1, a text is refused, and nothing is printed. For any status this is
+-- written.
 pub record Serves (most : ℕ) (Says : ℕ → Option (List ℕ) → Option (List ℕ) → Type 0) (Refuses : Type 0)
     (Writes : Option (List ℕ) → Option (List ℕ) → Type 0) (status : ℕ) (old new : Option (List ℕ)) : Type 0 where
   pub within : status ≤ most
@@ -73,6 +77,12 @@ ServesQuestions questions bytes status old new =
     ServesFile 5 (λ text s o n. AnswersQuestions questions text s o n) (λ text. HasNoCode text)
     (λ text o n. WritesPart (IsToldOf questions text) o n) bytes status old new
 
+-- likewise for every number of threads
+abbrev pub ServesCoverage : Coverage → (bytes : Option (List ℕ)) → (status : ℕ) → (old new : Option (List ℕ)) → Type 0
+ServesCoverage coverage bytes status old new =
+    ServesFile 5 (λ text s o n. AnswersCoverage coverage text s o n) (λ text. HasNoCode text)
+    (λ text o n. WritesPart (IsCoverageOf coverage text) o n) bytes status old new
+
 -- whether something holds of these bytes or not
 abbrev pub ServesEither : (IsSo IsNot : List ℕ → List ℕ → Type 0) → (Refuses : Type 0) → (bytes : Option (List ℕ)) →
     (status : ℕ) → (old new : Option (List ℕ)) → Type 0
@@ -80,7 +90,7 @@ ServesEither IsSo IsNot Refuses bytes status old new =
     Serves 5 (λ s o n. IfSome bytes (λ other. Tells (IsSo other) (IsNot other) s o n)) Refuses
     (λ o n. IfSome bytes (λ other. WritesPart (IsEither (IsSo other) (IsNot other)) o n)) status old new
 
--- for a number of threads and so many after it
+-- for a number of threads and this many after it
 abbrev pub ServesEitherInTurn : (IsSo IsNot : (threads : ℕ) → List ℕ → List ℕ → Type 0) → (Refuses : Type 0) →
     (more threads : ℕ) → (bytes : Option (List ℕ)) → (status : ℕ) → (old new : Option (List ℕ)) → Type 0
 ServesEitherInTurn IsSo IsNot Refuses more threads bytes status old new =
@@ -122,7 +132,7 @@ abbrev pub PrintsProperties : (threads : ℕ) → (AreFound : WalkEnd → List P
 PrintsProperties threads AreFound status old new =
     Serves 5 (TellsProperties threads AreFound) ⊥ (WritesPart (IsTextOfProperties threads AreFound)) status old new
 
--- likewise, for a number of threads and so many after it, one after another
+-- likewise, for a number of threads and this many after it, one after another
 abbrev pub PrintsInTurn : (most : ℕ) → (Says : (threads status : ℕ) → (old new : Option (List ℕ)) → Type 0) →
     (IsText : (threads : ℕ) → List ℕ → Type 0) → (more threads status : ℕ) → (old new : Option (List ℕ)) → Type 0
 PrintsInTurn most Says IsText more threads status old new =
@@ -141,3 +151,9 @@ abbrev pub PrintsPropertiesInTurn : (AreFound : (threads : ℕ) → WalkEnd → 
 PrintsPropertiesInTurn AreFound more threads status old new =
     PrintsInTurn 5 (λ k s o n. TellsProperties k (AreFound k) s o n)
     (λ k written. IsTextOfProperties k (AreFound k) written) more threads status old new
+
+-- likewise, the findings for every number of threads
+abbrev pub PrintsCoverings : (AreFound : List CoveredProperty → Type 0) → (status : ℕ) → (old new : Option (List ℕ)) →
+    Type 0
+PrintsCoverings AreFound status old new =
+    Serves 5 (TellsCoverings AreFound) ⊥ (WritesPart (IsTextOfCoverings AreFound)) status old new

@@ -5,7 +5,7 @@ use Rattle.txc.proofs.answer.Goals as goal
 
 pub returns-in-Ok-clause-answer : goal.returns-in-Ok-clause-answer
 returns-in-Ok-clause-answer g c =
-    subst (λ ws. AnswersWords ws (kept_in c.serve_words.result.files.items) c.serve_words.result.status (Some []) (Some c.serve_words.result.printed.bytes))
+    subst (λ ws. AnswersWords (g.F.Files.contents c.args.files.now) ws (kept_in c.serve_words.result.files.items) c.serve_words.result.status (Some []) (Some c.serve_words.result.printed.bytes))
     (ap (map (λ (w : Bor (List ℕ)). w.now)) c.as_slice.ensures.value ∙ c.in-Ok.ensures) c.serve_words.ensures.answer
 
 pub returns-in-Ok-clause-read : goal.returns-in-Ok-clause-read

@@ -16,6 +16,9 @@ returns-in-Picture g c = rw c.in-Picture.is c.draw.ensures
 pub returns-in-Outcomes : goal.returns-in-Outcomes
 returns-in-Outcomes g c = rw c.in-Outcomes.is c.all_outcomes.ensures
 
+pub returns-in-Explore : goal.returns-in-Explore
+returns-in-Explore g c = rw c.in-Explore.is c.explore_orders.ensures
+
 pub returns-in-Trace : goal.returns-in-Trace
 returns-in-Trace g c =
     let threads = c.in-Trace.threads in

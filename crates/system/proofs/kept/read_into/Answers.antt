@@ -1,4 +1,4 @@
-use Rattle.std.proofs.Common.{◌++◌, [], ◌∷◌, subst, sym}
+use Rattle.std.proofs.Common.{◌++◌, [], ◌∷◌, None, Some, subst, sym}
 use Rattle.system.specs.Kept.{AreReadFrom, IsFileKnown, StayKnown, kept_in}
 use Rattle.system.proofs.Keeping.{last_known, one_more_read, still_known}
 use Rattle.system.proofs.kept.read_into.Goals as goal
@@ -17,5 +17,11 @@ returns-clause-others g c =
 pub returns-clause-read : goal.returns-clause-read
 returns-clause-read g c = λ request source before.
     let contents = g.F.Files.contents c.args.files.now in
-    subst (AreReadFrom request contents) (sym c.in_ok-push.ensures.items)
-    (one_more_read request contents c.args.kept.now.items c.in_ok-file.file before (c.in_ok-file.ensures.bytes request source))
+    subst (AreReadFrom (Some request) contents) (sym c.in_ok-push.ensures.items)
+    (one_more_read (Some request) contents c.args.kept.now.items c.in_ok-file.file before (c.in_ok-file.ensures.bytes (Some request) source))
+
+pub returns-clause-tested : goal.returns-clause-tested
+returns-clause-tested g c = λ before.
+    let contents = g.F.Files.contents c.args.files.now in
+    subst (AreReadFrom None contents) (sym c.in_ok-push.ensures.items)
+    (one_more_read None contents c.args.kept.now.items c.in_ok-file.file before (c.in_ok-file.ensures.bytes None (λ is. tt)))

@@ -1,6 +1,6 @@
 use Rattle.std.proofs.Common.{[], Some, inr, refl, subst, sym}
 use Rattle.system.specs.Kept.{kept_in}
-use Rattle.system.specs.Words.{IsServed}
+use Rattle.system.specs.Served.{IsServed}
 use Rattle.system.proofs.Unread.{unread_served}
 use Rattle.system.proofs.words.serve_request.Goals as goal
 

@@ -4,5 +4,5 @@ use Rattle.system.specs.Words.{AnswersWords}
 use Rattle.system.proofs.words.tell_fault.Goals as goal
 
 pub returns-clause-answer : goal.returns-clause-answer
-returns-clause-answer g c = λ words is.
-    subst (λ files. AnswersWords words (kept_in files) c.tell_recorded-served.result.status (Some []) (Some c.tell_recorded-served.result.printed.bytes)) (sym c.new.ensures.items) (c.tell_recorded-served.ensures.answer words is)
+returns-clause-answer g c = λ all words is.
+    subst (λ files. AnswersWords all words (kept_in files) c.tell_recorded-served.result.status (Some []) (Some c.tell_recorded-served.result.printed.bytes)) (sym c.new.ensures.items) (c.tell_recorded-served.ensures.answer all words is)

@@ -1,0 +1,2 @@
+-- one line more, and words that are cut
+mod More

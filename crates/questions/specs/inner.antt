@@ -1,0 +1,2 @@
+-- a question that was found
+pub mod Found

@@ -1,0 +1,8 @@
+//! The questions that a source asks: lines whose words begin with `//` and `txc:`, and the words behind them.
+#![tactic(auto)]
+
+mod asked;
+mod expected;
+
+pub use asked::{Question, questions};
+pub use expected::{Expected, answer_expected, without_expected};

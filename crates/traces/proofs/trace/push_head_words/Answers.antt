@@ -1,0 +1,6 @@
+use Rattle.std.proofs.lemmas.Result.{on_ok_weaker}
+use Rattle.traces.proofs.Lines.{two_joined}
+use Rattle.traces.proofs.trace.push_head_words.Goals as goal
+
+pub returns : goal.returns
+returns g c = on_ok_weaker c.push_names.result (λ last. two_joined _ _ _ _ _ c.in_ok-push_first_columns.ensures last) c.push_names.ensures

@@ -1,0 +1,2 @@
+-- counts of verdicts
+pub mod Verdicts

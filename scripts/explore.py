@@ -1,0 +1,164 @@
+#!/usr/bin/env python3
+"""Compares pages of `txc explore` with the source, and the pages in docs/explore/ with what is written now.
+
+  scripts/explore.py [--txc PATH] [--browser PATH]   compares
+  scripts/explore.py --write [--txc PATH]            writes the pages of docs/explore/ again, and compares nothing
+
+Node runs the script of each page: from every state, the turn of every thread. The memory, output and ends after the turn
+must be those of `txc source` in a shortest order to the state and with this turn, and what the turn reads and writes must
+be that of `txc trace`. The number of states must be that of `txc outcomes`, which must list as many outcomes, and a stuck
+order if and only if the page has a stuck state. Properties must have the values that `txc trace --property` reports.
+
+With --browser, Chromium opens each page of docs/explore/ at its last order, and must show the memory after it.
+"""
+
+import json
+import os
+import re
+import subprocess
+import sys
+import tempfile
+
+from lib.words import TOP, TXC, asked
+
+PAGES = f"{TOP}/docs/explore"
+# Each page of the documents, and what writes it: README and TUTORIAL say so too.
+SHOWN = {
+    "seats.html": "examples/seats.c --threads 2 --order 0,1,1,0",
+    "lock_broken.html": "examples/properties/lock_broken.c --threads 2 --always alone",
+    "philosophers_broken.html": "examples/properties/philosophers_broken.c --threads 3 --always neighbours_wait",
+}
+COMPARED = [
+    *SHOWN.values(),
+    "examples/booking.c --threads 2",
+    "examples/receipt.c --threads 3",
+    "examples/withdraw.c --threads 2",
+]
+NODE = r"""
+const html = require("fs").readFileSync(process.argv[1], "utf8");
+const data = JSON.parse(/<script type="application\/json" id="data">(.*?)<\/script>/s.exec(html)[1]);
+const model = new Function(/<script id="model">(.*?)<\/script>/s.exec(html)[1] + "\nreturn modelOf;")()(data);
+const search = model.search(0), turns = [];
+for (const state of search.found)
+  for (const thread of model.all) {
+    const order = [...model.orderTo(search.led, state), thread], path = model.path(order), last = path[order.length];
+    turns.push({ order, ran: model.runs(state, thread), effects: model.effects(state, thread), memory: model.memory(last),
+      threads: model.all.map(other => [model.rest(last, other).end || "waits", model.rest(last, other).printed]),
+      values: data.properties.map(property => [property.name, property.values[last]]) });
+  }
+console.log(JSON.stringify({ cells: data.cells, states: search.found.length, outcomes: model.outcomes.size,
+  stuck: model.can.includes(false), turns }));
+"""
+LAST = re.compile(r"^== outcomes: (\d+), stuck: (\d+), states: (\d+)", re.M)
+ROW = re.compile(r'<tr(?: class="changed")?><td>(.*?)</td><td>(-?\d+)')
+SAID = {"1": "holds", "0": "fails", "?": "takes more than 1000000 ticks"}
+
+
+def out_of(txc, *words):
+    """What the program prints."""
+    return subprocess.run([txc, *words], capture_output=True, text=True, check=False, cwd=TOP).stdout
+
+
+def page_of(txc, words):
+    """The page that the program writes, and its words without the order and properties."""
+    page = out_of(txc, "explore", *words.split())
+    if not page.endswith("</html>\n"):
+        sys.exit(f"txc explore {words}: no page")
+    return page
+
+
+def report_of(cells, turn):
+    """The report of `txc source` for what the page shows after a turn."""
+    lines = []
+    for thread, (end, text) in enumerate(turn["threads"]):
+        lines.append(f"== thread {thread}: {end}\n{text}")
+        if text and not text.endswith("\n"):
+            lines.append("\n")
+    globals_ = {}
+    for name, value in zip(cells, turn["memory"], strict=True):
+        globals_.setdefault(name.partition("[")[0], []).append(str(value))
+    return "".join(lines) + "== memory\n" + "".join(f"{name} = {' '.join(them)}\n" for name, them in globals_.items())
+
+
+def touched_by(trace, count):
+    """What the last of so many turns reads and writes, by a trace."""
+    lines = trace.splitlines()
+    names, marks = lines[0].split()[3:], lines[count + 1].split()[3:]
+    if lines[count + 1].endswith("none: terminated"):
+        return {}, {}
+    pairs = list(zip(names, marks, strict=False))
+    return ({name: mark for name, mark in pairs if mark not in (".",) and not mark.startswith(">")},
+            {name: mark[1:] for name, mark in pairs if mark.startswith(">")})
+
+
+def compare(txc, words):
+    """Compares each turn of a page with the source. It exits if one differs."""
+    with tempfile.NamedTemporaryFile("w", suffix=".html", encoding="utf-8") as file:
+        file.write(page_of(txc, words))
+        file.flush()
+        done = subprocess.run(["node", "-e", NODE, file.name], capture_output=True, text=True, check=True)
+    found = json.loads(done.stdout)
+    run = words.split()[:3]
+    outcomes, stuck, states = LAST.search(out_of(txc, "outcomes", *run)).groups()
+    if (found["states"], found["outcomes"], found["stuck"]) != (int(states), int(outcomes), stuck != "0"):
+        sys.exit(f"{words}: {found['states']} states, {found['outcomes']} outcomes, stuck {found['stuck']}")
+    for turn in found["turns"]:
+        order = ",".join(map(str, turn["order"]))
+        report = out_of(txc, "source", *run, "--order", order)
+        if report != report_of(found["cells"], turn):
+            sys.exit(f"{words}, order {order}: the page has\n{report_of(found['cells'], turn)}and the source\n{report}")
+        effects = turn["effects"]
+        of_page = ({name: str(value) for name, value in effects["reads"]},
+                   {name: str(value) for name, value, _ in effects["writes"]})
+        trace = out_of(txc, "trace", *run, "--order", order)
+        if of_page != touched_by(trace, len(turn["order"])):
+            sys.exit(f"{words}, order {order}: the page has {of_page} of\n{trace}")
+        for name, value in turn["values"]:
+            shown = out_of(txc, "trace", *run, "--order", order, "--property", name).splitlines()
+            if not any(re.match(rf"property {name}: {SAID[value]}(:|$)", line) for line in shown):
+                sys.exit(f"{words}, order {order}: {name} is not {SAID[value]}")
+    print(f"{words}: {found['states']} states, {len(found['turns'])} turns")
+
+
+def browse(browser, txc, name, words):
+    """Compares the memory that the browser shows with that of the source."""
+    run, order = words.split()[:3], "0,1,1"
+    flags = ["--headless", "--no-sandbox", "--disable-gpu", "--virtual-time-budget=5000", "--dump-dom"]
+    address = f"file://{PAGES}/{name}#order={order}"
+    done = subprocess.run([browser, *flags, address], capture_output=True, text=True, check=True)
+    report = out_of(txc, "source", *run, "--order", order).partition("== memory\n")[2]
+    cells = {}
+    for line in report.splitlines():
+        of, _, values = line.partition(" = ")
+        them = values.split()
+        cells.update({of: them[0]} if len(them) == 1 else {f"{of}[{at}]": it for at, it in enumerate(them)})
+    if dict(ROW.findall(done.stdout)) != cells:
+        sys.exit(f"{name}: the browser shows {ROW.findall(done.stdout)}, and the source leaves {cells}")
+    print(f"{name}: shown by the browser")
+
+
+def main():
+    browser = "--browser", {"metavar": "PATH", "help": "a Chromium, which opens the pages of docs/explore/"}
+    given = asked(__doc__, "--write", browser, TXC)
+    os.makedirs(PAGES, exist_ok=True)
+    for name, words in SHOWN.items():
+        page = page_of(given.txc, words)
+        if given.write:
+            with open(f"{PAGES}/{name}", "w", encoding="utf-8") as file:
+                file.write(page)
+            continue
+        with open(f"{PAGES}/{name}", encoding="utf-8") as file:
+            if file.read() != page:
+                sys.exit(f"docs/explore/{name} is another page: scripts/explore.py --write writes it")
+    if given.write:
+        return 0
+    for words in COMPARED:
+        compare(given.txc, words)
+    if given.browser:
+        for name, words in SHOWN.items():
+            browse(given.browser, given.txc, name, words)
+    return 0
+
+
+if __name__ == "__main__":
+    sys.exit(main())
