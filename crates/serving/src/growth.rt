@@ -64,7 +64,7 @@ fn most_values<A: Allocator + Copy>(covering: &Covering<A>, from: usize, to: usi
 }
 
 /// The global that has the most values, if there is one.
-fn growing<'u, A: Allocator + Copy>(
+fn widest_global<'u, A: Allocator + Copy>(
     unit: &'u Unit<A>,
     covering: &Covering<A>,
 ) -> Option<Growing<'u>> {
@@ -111,10 +111,10 @@ pub(crate) fn tell_growth<A: Allocator + Copy, E: Write>(
 ) {
     let (nodes, stop) = (covering.nodes(), stop_words(covering));
     let _ = write!(err, "txc: nodes {nodes}, stopped at the {stop}");
-    if let Some(growing) = growing(unit, covering) {
-        let values = growing.values;
+    if let Some(widest) = widest_global(unit, covering) {
+        let values = widest.values;
         let _ = write!(err, "; ");
-        let _ = write_shown(growing.name, "", err);
+        let _ = write_shown(widest.name, "", err);
         let _ = write!(err, " has at least {values} values");
     }
     let _ = writeln!(err);
