@@ -10,7 +10,8 @@ use Rattle.command.specs.declared.request.Job.{Job}
 use Rattle.command.specs.declared.request.Job.TheVariants.{Serve, Test}
 use Rattle.command.specs.declared.request.Request.{Request}
 use Rattle.command.specs.declared.request.Request.TheVariants.{Program, Certify, Compare, Ask, Explain, ExplainEnd}
-use Rattle.command.specs.declared.request.Task.TheVariants.{Check, Listing, Run, Replay, Timeline, Picture, PrintOrder, PrintSchedule, Source, Trace, Outcomes}
+use Rattle.command.specs.declared.request.Task.TheVariants.{Check, Listing, Run, Replay, Timeline, Picture, PrintOrder, PrintSchedule, Source, Trace}
+use Rattle.command.specs.declared.request.Task.TheVariants.{Explore, Outcomes}
 use Rattle.command.specs.declared.request.Tests.{Tests}
 use Rattle.command.specs.declared.request.UsageFault.{UsageFault}
 use Rattle.command.specs.declared.request.UsageFault.TheVariants.{OutOfMemory, Help, Wrong}
@@ -38,8 +39,9 @@ no_task given (Picture threads from steps) is = let e : 116 ≡ 114 = ap (λ l. 
 no_task given (PrintSchedule threads seed count) is = let e : 116 ≡ 114 = ap (λ l. slice_index l 0) is.0 in absurd (omega (arith, e))
 no_task given (PrintOrder threads order) is = let e : 116 ≡ 114 = ap (λ l. slice_index l 0) is.0 in absurd (omega (arith, e))
 no_task given (Source threads order ticks) is = let e : 116 ≡ 115 = ap (λ l. slice_index l 0) is.0 in absurd (omega (arith, e))
-no_task given (Trace threads order property) is = let e : 4 ≡ 5 = ap length is.0 in absurd (omega (arith, e))
-no_task given (Outcomes threads steps limit memory) is = let e : 116 ≡ 111 = ap (λ l. slice_index l 0) is.0 in absurd (omega (arith, e))
+no_task given (Trace threads order property in_full) is = let e : 4 ≡ 5 = ap length is.0 in absurd (omega (arith, e))
+no_task given (Explore threads order always) is = let e : 116 ≡ 101 = ap (λ l. slice_index l 0) is.0 in absurd (omega (arith, e))
+no_task given (Outcomes threads steps limit memory time traces) is = let e : 116 ≡ 111 = ap (λ l. slice_index l 0) is.0 in absurd (omega (arith, e))
 
 no_request : (given : List Row) → AreNoRequest (codes "test") given
 no_request given (Program file verbose format task) is = no_task given task is.3
