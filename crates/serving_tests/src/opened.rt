@@ -95,7 +95,7 @@ pub(crate) const REFUSED: Found = Err(ErrorKind::OutOfMemory);
 const OUT_OF_MEMORY: ServeResult<'static> = (4, b"", b"txc: out of memory\n");
 
 fn rows() -> &'static [Row] {
-    static ROWS: [Row; 31] = [
+    static ROWS: [Row; 34] = [
         // words that make no request open no file
         (
             "txc run a.c --threads 65",
