@@ -126,7 +126,7 @@ fn reads_words(rt: HostRuntime) {
 }
 
 fn orders() -> &'static [Row] {
-    static ROWS: [Row; 11] = [
+    static ROWS: [Row; 12] = [
         (
             "txc|explore|a.c",
             br#"Ok(Program { file: "a.c", verbose: false, format: Plain, task: Explore { threads: 2, order: [], always: None } })"#,
