@@ -14,5 +14,5 @@ mod Ranges
 mod Tasks
 -- what words define
 mod Defining
--- files that are tested
+-- command lines that test files
 mod Testing

@@ -89,7 +89,7 @@ no_trace given none (Trace threads order property in_full) is = none order.items
 no_trace given none (Explore threads order always) is = let e : 116 ≡ 101 = ap (λ l. slice_index l 0) is.0 in absurd (omega (arith, e))
 no_trace given none (Outcomes threads steps limit memory time traces) is = let e : 116 ≡ 111 = ap (λ l. slice_index l 0) is.0 in absurd (omega (arith, e))
 
--- no order at which it opens, no page
+-- without an order at which it opens, there is no page
 pub no_explore : (given : List Row) → ((order : List ℕ) → IsOrderOpened given order → ⊥) → AreNoTask (codes "explore") given
 no_explore given none (Check told) is = let e : 101 ≡ 99 = ap (λ l. slice_index l 0) is.0 in absurd (omega (arith, e))
 no_explore given none Listing is = let e : 101 ≡ 108 = ap (λ l. slice_index l 0) is in absurd (omega (arith, e))
@@ -104,7 +104,7 @@ no_explore given none (Trace threads order property in_full) is = let e : 101 �
 no_explore given none (Explore threads order always) is = none order.items is.2
 no_explore given none (Outcomes threads steps limit memory time traces) is = let e : 101 ≡ 111 = ap (λ l. slice_index l 0) is.0 in absurd (omega (arith, e))
 
--- an order that is given, and that lists no threads, is none at which a page opens
+-- if the given text lists no threads, a page opens at no order
 pub none_opened : (given : List Row) (text : Text) → Some text ≡ first_of (codes "order") given → ((order : List ℕ) → IsOrderGiven given order → ⊥) → (order : List ℕ) → IsOrderOpened given order → ⊥
 none_opened given text said none order (inl is) = none order is
 none_opened given text said none order (inr is) = let e : Some text ≡ None = said ∙ is.0 in cc

@@ -1,4 +1,4 @@
--- Files that words want tested.
+-- Command lines that test files.
 use Rattle.std.proofs.Common.{◌≡◌, ◌∙◌, true, List, [], Option, Some, None, length, refl, sym, ap, subst, arith, inl, inr}
 use Rattle.std.specs.Prelude.{codes, slice_index, unwrap_or}
 use Rattle.clap.specs.Words.{App, HasKind, HasMatchesOf, IsAmong, Row, Text, all_of, fault_of, is_simple, is_simple_and_free, kind_of, subcommand_of, subcommand_rows_of}
@@ -21,14 +21,14 @@ use Rattle.command.specs.Tests.{AreTests, IsJob, RefusesJob, WantJob, WantNoTest
 use Rattle.command.specs.inner.Refusals.{AreNoRequest, AreNoTask, AskNoMore, HasJob, IsOwn, SaysError}
 use Rattle.command.proofs.Commands.{asked, error_refused, own_refused, program_app-is_free, program_app-is_simple}
 
--- the files that are given
+-- the given files
 pub some_given : (id : Text) (o : Option (List Text)) (given : List Row) (files : List Text) → Some files ≡ o → o ≡ all_of id given → unwrap_or (all_of id given) [] ≡ files
 some_given id o given files found is = sym (ap (λ x. unwrap_or x []) (found ∙ is))
 
 pub none_given : (id : Text) (o : Option (List Text)) (given : List Row) → None ≡ o → o ≡ all_of id given → unwrap_or (all_of id given) [] ≡ []
 none_given id o given found is = sym (ap (λ x. unwrap_or x []) (found ∙ is))
 
--- no task and no request is that of `test`
+-- `test` is the command of no task and of no request
 no_task : (given : List Row) → AreNoTask (codes "test") given
 no_task given (Check told) is = let e : 116 ≡ 99 = ap (λ l. slice_index l 0) is.0 in absurd (omega (arith, e))
 no_task given Listing is = let e : 116 ≡ 108 = ap (λ l. slice_index l 0) is in absurd (omega (arith, e))
@@ -52,7 +52,7 @@ no_request given (Cover file verbose format coverage) is = let e : 116 ≡ 111 =
 no_request given (Explain number) is = let e : 116 ≡ 101 = ap (λ l. slice_index l 0) is.0 in absurd (omega (arith, e))
 no_request given (ExplainEnd word number) is = let e : 116 ≡ 101 = ap (λ l. slice_index l 0) is.0 in absurd (omega (arith, e))
 
--- nothing is wanted of `test` if no files are tested, and of another command if it asks nothing
+-- `test` requests no job without tests, and another command requests none without a request
 pub no_tests : (name : Text) (given : List Row) → name ≡ codes "test" → ((t : Tests) → AreTests given t → ⊥) → (j : Job) → IsJob name given j → ⊥
 no_tests name given is none (Serve a) made = no_request given a.request (subst (λ n. IsRequest n given a.request) is made.request_is)
 no_tests name given is none (Test t) made = none t made.1
@@ -61,14 +61,14 @@ pub no_more : (name : Text) (given : List Row) → (name ≡ codes "test" → �
 no_more name given other none (Serve a) made = none a made
 no_more name given other none (Test t) made = other made.0
 
--- a command that wants nothing is the one that was met
+-- no job is requested if the parsed command requests none
 pub no_job : (met : Option (Text × List Row)) (name : Text) (given : List Row) → Some (name, given) ≡ met → ((j : Job) → IsJob name given j → ⊥) → (j : Job) → HasJob met j → ⊥
 no_job met name given is none j has =
     let command = has.command in
     let e : ◌≡◌ {A = Text × List Row} (has.name, has.given) (name, given) = cc in
     none j (subst (λ p. IsJob p.0 p.1 j) e has.made)
 
--- what was met is what the words want
+-- the job of the parsed command is the one that the words request
 pub job_wanted : (a : App) (words : List Text) (m : ArgMatches) (j : Job) → a ≡ program_app → HasMatchesOf a words m → (is_simple_and_free a ≡ true → fault_of a words ≡ []) → HasJob (subcommand_rows_of m) j → WantJob words j
 job_wanted a words m (Serve r) same has none met = asked a words m r same has none (record { name = met.name; given = met.given; command = met.command; made = met.made })
 job_wanted a words m (Test t) same has none met = record {
@@ -79,7 +79,7 @@ job_wanted a words m (Test t) same has none met = record {
   made = met.made;
 }
 
--- words that the command line has, and that want nothing
+-- words that parse, but request no job
 pub job_refused : (a : App) (words : List Text) (m : ArgMatches) (f : UsageFault) → a ≡ program_app → HasMatchesOf a words m → (is_simple_and_free a ≡ true → fault_of a words ≡ []) → IsOwn ((j : Job) → HasJob (subcommand_rows_of m) j → ⊥) f → RefusesJob words f
 job_refused a words m OutOfMemory same has none own = tt
 job_refused a words m (Help text) same has none own = absurd own
@@ -89,7 +89,7 @@ job_refused a words m (Wrong text) same has none own =
       λ t wants. own (Test t) (record { name = wants.name; given = wants.given; command = sym met ∙ ap (λ x. subcommand_of x words) same ∙ wants.command; made = wants.made }),
     )
 
--- words that the command line has not got want no files tested
+-- words that do not parse request no tests
 strange_want_none : (words : List Text) (kind : ErrorKind) → IsAmong kind (fault_of program_app words) → WantNoTests words
 strange_want_none words kind among t wants = subst (λ kinds. IsAmong kind kinds) wants.taken among
 
@@ -97,7 +97,7 @@ among_kinds : (words : List Text) (e : Error) (text : _) → HasKind (fault_of p
 among_kinds words e text (inl memory) says = absurd (says.0 memory)
 among_kinds words e text (inr among) says = strange_want_none words (kind_of e) among
 
--- clap refuses words, or tells the help that they ask for
+-- clap refuses the words, or returns the help that they request
 pub job_error : (a : App) (words : List Text) (e : Error) (f : UsageFault) → a ≡ program_app → (is_simple_and_free a ≡ true → HasKind (fault_of a words) e) → SaysError e f → RefusesJob words f
 job_error a words e OutOfMemory same has says = tt
 job_error a words e (Help text) same has says = error_refused a words e (Help text) same has says

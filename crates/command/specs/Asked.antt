@@ -110,7 +110,7 @@ pub record IsOrderGiven (given : List Row) (order : List ℕ) : Type 0 where
   pub said : first_of (codes "order") given ≡ Some text
   pub listed : IsOrder text order
 
--- the order at which a page opens: the empty one if none is given
+-- the order at which a page opens; it is empty if none is given
 abbrev pub IsOrderOpened : List Row → List ℕ → Type 0
 IsOrderOpened given order = IsOrderGiven given order ⊎ ((first_of (codes "order") given ≡ None) × (order ≡ []))
 
@@ -230,7 +230,7 @@ pub record AreQuestions (given : List Row) (questions : Questions) : Type 0 wher
   pub keeps_going : IsTrue questions.keeps_going ↔ IsFlagged given (codes "keep-going")
   pub traces : IsTrue questions.traces ↔ IsFlagged given (codes "trace")
 
--- `any` is given in place of a number of threads
+-- `any` is given instead of a number of threads
 pub record IsAnyNumber (given : List Row) : Type 0 where
   pub said : first_of (codes "threads") given ≡ Some (codes "any")
   pub no_number : IsSomeAnd (one_of (codes "threads") given) IsNoNumber

@@ -2,7 +2,7 @@
 pub mod Line
 -- the requests that words make
 pub mod Asked
--- the files that words want tested
+-- command lines that test files
 pub mod Tests
 -- definitions for private functions and proofs alone
 pub mod inner

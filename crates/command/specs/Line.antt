@@ -11,7 +11,7 @@ file_rule = record (new_rule (codes "FILE")) { required = true; action = Some Se
 abbrev pub files_rule : Rule
 files_rule = record (new_rule (codes "FILE")) { required = true; action = Some Append }
 
--- a flag of this name
+-- one or more files with programs
 abbrev pub flag_rule : Text → Rule
 flag_rule name = record (new_rule name) { long = Some name; action = Some SetTrue }
 

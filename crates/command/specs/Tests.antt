@@ -1,4 +1,4 @@
--- The files that words want tested.
+-- Command lines that test files.
 use Rattle.std.specs.Prelude.{◌≡◌, ◌↔◌, IsTrue, List, [], Option, Some, None, codes, map, string_bytes, unwrap_or}
 use Rattle.clap.specs.Words.{Row, Text, all_of, fault_of, first_of, subcommand_of}
 use Rattle.command.specs.Asked.{IsCommanded, IsFlagged, Refuses, Requests}
@@ -11,24 +11,24 @@ use Rattle.command.specs.declared.request.Tests.{Tests}
 use Rattle.command.specs.declared.request.UsageFault.{UsageFault}
 use Rattle.command.specs.declared.request.UsageFault.TheVariants.{OutOfMemory, Help, Wrong}
 
--- how answers are reported, by the value of `--format`
+-- how answers are reported, according to `--format`
 abbrev pub IsTestFormat : Option Text → TestFormat → Type 0
 IsTestFormat text Plain = text ≡ None
 IsTestFormat text Github = text ≡ Some (codes "github")
 IsTestFormat text Json = text ≡ Some (codes "json")
 
--- the files to test, and how
+-- the files to test, and the options of the test
 pub record AreTests (given : List Row) (tests : Tests) : Type 0 where
   pub files : map string_bytes tests.files.items ≡ unwrap_or (all_of (codes "FILE") given) []
   pub format : IsTestFormat (first_of (codes "format") given) tests.format
   pub lists : IsTrue tests.lists ↔ IsFlagged given (codes "list")
 
--- a command and the values of its arguments want this done
+-- a command and the values of its arguments request this job
 abbrev pub IsJob : Text → List Row → Job → Type 0
 IsJob name given (Serve asked) = IsCommanded name given asked
 IsJob name given (Test tests) = (name ≡ codes "test") × AreTests given tests
 
--- the words are those of `txc test`, for these files
+-- the words are a `txc test` command for these files
 pub record RequestTests (words : List Text) (tests : Tests) : Type 0 where
   pub taken : fault_of program_app words ≡ []
   pub name : Text
@@ -36,16 +36,16 @@ pub record RequestTests (words : List Text) (tests : Tests) : Type 0 where
   pub command : subcommand_of program_app words ≡ Some (name, given)
   pub made : (name ≡ codes "test") × AreTests given tests
 
--- what words want done
+-- the job that words request
 abbrev pub WantJob : List Text → Job → Type 0
 WantJob words (Serve asked) = Requests words asked
 WantJob words (Test tests) = RequestTests words tests
 
--- words that want no files tested
+-- words that request no tests
 abbrev pub WantNoTests : List Text → Type 0
 WantNoTests words = (tests : Tests) → RequestTests words tests → ⊥
 
--- the meaning of a fault for words, of which wrong ones want no files tested either
+-- the meaning of a fault in words; if they are wrong, they request no tests either
 abbrev pub RefusesJob : List Text → UsageFault → Type 0
 RefusesJob words OutOfMemory = Unit {0}
 RefusesJob words (Help text) = Refuses words (Help text)

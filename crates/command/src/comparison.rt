@@ -32,7 +32,8 @@ pub(crate) fn compares(name: &str, given: &ArgMatches<'_>) -> bool
     name == "outcomes" && (has_text(given, "refines") || has_text(given, "expect"))
 }
 
-/// The file that is given for one of two arguments, if none is for the other and the source isn't standard input too.
+/// The file given for one of two arguments. It is refused if the other is given too, or if the source is standard input
+/// as well.
 fn given_alone(
     alloc: Global,
     given: &ArgMatches<'_>,

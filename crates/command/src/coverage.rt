@@ -1,4 +1,4 @@
-//! Which functions must hold for every number of threads.
+//! The functions that must hold for every number of threads.
 
 ghost use Rattle.std.specs.Prelude.{◌≡◌, ◌↔◌, ℕ, IfErr, IfOk, IsTrue, codes, true, false};
 ghost use Rattle.clap.specs.Words.{found_of, rows_of};
@@ -26,7 +26,7 @@ fn is_any(given: &ArgMatches<'_>) -> bool
     }
 }
 
-/// Whether a command is for every number of threads.
+/// Whether a command checks functions for every number of threads.
 pub(crate) fn covers(name: &str, given: &ArgMatches<'_>) -> bool
     ensures yes { result ≡ true → (name.now ≡ codes "outcomes") × IsAnyNumber (rows_of (found_of given.now)) }
     ensures unexplored { result ≡ true → (first last : ℕ) →
@@ -36,7 +36,7 @@ pub(crate) fn covers(name: &str, given: &ArgMatches<'_>) -> bool
     name == "outcomes" && is_any(given)
 }
 
-/// What must hold for every number of threads.
+/// The functions that must hold for every number of threads, and the limits of the search.
 pub(crate) fn coverage(alloc: Global, given: &ArgMatches<'_>) -> Result<Coverage, UsageFault>
     requires { IsAnyNumber (rows_of (found_of given.now)) }
     ensures ok { IfOk result (IsCoverageAsked (rows_of (found_of given.now))) }

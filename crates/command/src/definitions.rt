@@ -1,4 +1,4 @@
-//! Numbers that replace names of sources.
+//! Numbers that replace names in sources.
 
 ghost use Rattle.std.specs.Prelude.{◌≡◌, ◌++◌, ◌∷◌, [], OnOk, List, IfOk, IfErr, MatchOption, false, map};
 ghost use Rattle.std.specs.Prelude.{string_bytes, true};
@@ -36,7 +36,7 @@ fn thread_count(name: &str, given: &ArgMatches<'_>) -> Option<u32>
     }
 }
 
-/// Says that a word needs one number of threads.
+/// Reports that a definition needs a single number of threads.
 fn no_single_number(alloc: Global, word: &str) -> UsageFault
     ensures { IsOwn (Unit {0}) result }
 {
@@ -97,7 +97,7 @@ fn read(alloc: Global, words: &[&str], threads: Option<u32>) -> Result<Vec<Defin
     Ok(definitions)
 }
 
-/// The definitions that the command line gives.
+/// The definitions given on the command line.
 fn read_given(
     alloc: Global,
     given: &ArgMatches<'_>,
@@ -139,7 +139,7 @@ fn twice(definitions: &[Definition]) -> Option<&str>
     None
 }
 
-/// The definitions of a command line, each of another name.
+/// The definitions of a command line, with distinct names.
 pub(crate) fn definitions(
     alloc: Global,
     name: &str,

@@ -101,7 +101,7 @@ pub(crate) fn out_of_range(alloc: Global, id: &str, least: u32, most: u32) -> Us
     }
 }
 
-/// Says which numbers an argument takes, and that a command takes no range if one is given.
+/// Reports which numbers an argument accepts. If a range is given, reports that the command takes one number.
 fn no_number(alloc: Global, given: &ArgMatches<'_>, id: &str, least: u32, most: u32) -> UsageFault
     ensures { IsOwn (Unit {0}) result }
 {
@@ -114,7 +114,7 @@ fn no_number(alloc: Global, given: &ArgMatches<'_>, id: &str, least: u32, most: 
     }
 }
 
-/// The number that is given for an argument, if one is given. Any other text is refused.
+/// The number given for an argument, if any. Any other text is refused.
 pub(crate) fn number_given(
     alloc: Global,
     given: &ArgMatches<'_>,

@@ -525,7 +525,7 @@ fn certify<'a>(alloc: Global) -> Result<Command<'a>, AllocError>
     with(command, ticks)
 }
 
-/// The files that are tested.
+/// The files to test.
 fn files<'a>(alloc: Global) -> Arg<'a>
     ensures rule { rule_of result ≡ files_rule }
     ensures global { result.global ≡ false }

@@ -38,7 +38,7 @@ pub fn command(alloc: Global, words: &[&str]) -> Result<Asked, UsageFault>
     }
 }
 
-/// Reads the words of a command line, as `command` does, and of `txc test` too.
+/// Reads the words of a command line. Unlike `command`, it accepts `txc test` too.
 pub fn job(alloc: Global, words: &[&str]) -> Result<Job, UsageFault>
     ensures ok { IfOk result (WantJob (map (λ w. w.now) words.now)) }
     ensures err { IfErr result (RefusesJob (map (λ w. w.now) words.now)) }
@@ -50,7 +50,7 @@ pub fn job(alloc: Global, words: &[&str]) -> Result<Job, UsageFault>
     }
 }
 
-/// What words want done that the command line has.
+/// The job that an accepted command line requests.
 fn job_asked(alloc: Global, matches: &ArgMatches<'_>) -> Result<Job, UsageFault>
     ensures ok { IfOk result (HasJob (subcommand_rows_of matches.now)) }
     ensures err { IfErr result (IsOwn ((j : Job) → HasJob (subcommand_rows_of matches.now) j → ⊥)) }
@@ -69,7 +69,7 @@ fn is_test(name: &str) -> bool
     name == "test"
 }
 
-/// What a command wants done, with what is given for its arguments.
+/// The job of a command with these arguments.
 fn job_of(alloc: Global, name: &str, given: &ArgMatches<'_>) -> Result<Job, UsageFault>
     ensures ok { IfOk result (IsJob name.now (rows_of (found_of given.now))) }
     ensures err { IfErr result (IsOwn ((j : Job) → IsJob name.now (rows_of (found_of given.now)) j → ⊥)) }
@@ -96,7 +96,7 @@ fn refusal(alloc: Global, error: &Error) -> UsageFault
     }
 }
 
-/// The request and the definitions of words that the command line accepts.
+/// The request and the definitions of an accepted command line.
 fn asked(alloc: Global, matches: &ArgMatches<'_>) -> Result<Asked, UsageFault>
     ensures ok { IfOk result (HasGiven (subcommand_rows_of matches.now)) }
     ensures err { IfErr result (IsOwn ((a : Asked) → HasGiven (subcommand_rows_of matches.now) a → ⊥)) }

@@ -6,37 +6,37 @@ use parameters::Definition;
 use std::alloc::AllocError;
 use thiserror::Error;
 
-/// A request, and the numbers that replace names of its sources.
+/// A request, and the numbers that replace names in its sources.
 #[derive(Debug, Drop)]
 pub struct Asked {
     pub request: Request,
     pub definitions: Vec<Definition>,
 }
 
-/// What words want done.
+/// A job that a command line requests.
 #[derive(Debug, Drop)]
 pub enum Job {
-    /// A request is served.
+    /// Serves a request.
     Serve(Asked),
-    /// Files are tested.
+    /// Tests files.
     Test(Tests),
 }
 
-/// Files whose questions are put to `txc outcomes`.
+/// Files whose questions `txc outcomes` answers.
 #[derive(Debug, Drop)]
 pub struct Tests {
     pub files: Vec<String>,
     pub format: TestFormat,
-    /// Whether the commands are listed, and none is served.
+    /// Whether the commands are listed instead of served.
     pub lists: bool,
 }
 
 /// How the answer to a question is reported.
 #[derive(Clone, Copy, PartialEq, Eq, Debug)]
 pub enum TestFormat {
-    /// In a line with the place of the question.
+    /// As a line with the position of the question.
     Plain,
-    /// As an annotation of GitHub, if it is not the expected answer.
+    /// As a GitHub annotation, unless the answer is the expected one.
     Github,
     /// As a JSON object.
     Json,
@@ -155,12 +155,13 @@ pub struct Questions {
     pub last: Option<String>,
     /// Whether the search continues once each function has failed.
     pub keeps_going: bool,
-    /// Whether the trace of the first order after which a function fails is reported, and of the first that is stuck.
+    /// Whether traces are reported of the first order after which a function fails, and of the first stuck order.
     pub traces: bool,
 }
 
-/// The functions that must hold in every state that any number of threads from 1 to 64 reaches, over at most so many
-/// states. In a turn a thread makes at most so many steps of its code, and a function takes at most so many ticks.
+/// The functions that must hold in every state that 1 to 64 threads reach, for each number of threads. The search finds
+/// at most `limit` states. A thread makes at most `steps` steps of its code in a turn, and a function takes at most as
+/// many ticks.
 #[derive(Debug, Drop)]
 pub struct Coverage {
     pub steps: u32,
@@ -250,23 +251,23 @@ pub enum Task {
         /// Whether each turn is shown in full.
         in_full: bool,
     },
-    /// Writes a page on which all orders of 1 to 64 threads can be played. It opens at this order, and shows the values
-    /// of functions of these names, joined by commas.
+    /// Writes a page on which all orders of 1 to 64 threads can be played. It opens at `order`, and shows the values of
+    /// the functions in `always`, whose names are joined by commas.
     Explore {
         threads: u32,
         order: Vec<u32>,
         always: Option<String>,
     },
     /// Lists the outcomes of 1 to 64 threads in all orders, over at most so many states. In a turn a thread makes at
-    /// most so many steps of its code, and states and list take about so many MB of memory. The search takes at most
-    /// about so many seconds, if a number is given.
+    /// most so many steps of its code, and the states and the list take about so many MB of memory. If `time` is given,
+    /// the search takes about so many seconds at most.
     Outcomes {
         threads: ThreadRange,
         steps: u32,
         limit: u32,
         memory: u32,
         time: Option<u32>,
-        /// Whether the trace of the first order that is stuck is reported, and of the first in which a thread traps.
+        /// Whether traces are reported of the first stuck order, and of the first order in which a thread traps.
         traces: bool,
     },
 }

@@ -217,7 +217,7 @@ fn trace(alloc: Global, given: &ArgMatches<'_>) -> Result<Task, UsageFault>
     })
 }
 
-/// The order at which a page opens: the empty one if none is given.
+/// The order at which a page opens; it is empty if none is given.
 fn order_opened(alloc: Global, given: &ArgMatches<'_>) -> Result<Vec<u32>, UsageFault>
     ensures ok { IfOk result (λ v. IsOrderOpened (rows_of (found_of given.now)) v.items) }
     ensures err { IfErr result (IsOwn ((ns : List ℕ) → IsOrderOpened (rows_of (found_of given.now)) ns → ⊥)) }

@@ -1,4 +1,4 @@
-//! Which files are tested, and how.
+//! The files to test, and how answers are reported.
 
 ghost use Rattle.std.specs.Prelude.{◌≡◌, [], IfErr, IfOk, codes, map, string_bytes, unwrap_or};
 ghost use Rattle.clap.specs.Words.{all_of, first_of, found_of, rows_of};
@@ -12,7 +12,7 @@ use crate::request::{TestFormat, Tests, UsageFault};
 use clap::ArgMatches;
 use std::alloc::{AllocError, Global};
 
-/// Copies of names.
+/// Copies names.
 fn copied(alloc: Global, names: &[&str]) -> Result<Vec<String>, AllocError>
     ensures { IfOk result (λ v. map string_bytes v.items ≡ map (λ w. w.now) names.now) }
 {
@@ -24,7 +24,7 @@ fn copied(alloc: Global, names: &[&str]) -> Result<Vec<String>, AllocError>
     Ok(files)
 }
 
-/// The files that are given.
+/// The given files.
 fn files_given(alloc: Global, given: &ArgMatches<'_>) -> Result<Vec<String>, AllocError>
     ensures { IfOk result (λ v. map string_bytes v.items
         ≡ unwrap_or (all_of (codes "FILE") (rows_of (found_of given.now))) []) }
@@ -35,7 +35,7 @@ fn files_given(alloc: Global, given: &ArgMatches<'_>) -> Result<Vec<String>, All
     }
 }
 
-/// How answers are to be told.
+/// How answers are reported.
 fn format_given(alloc: Global, given: &ArgMatches<'_>) -> Result<TestFormat, UsageFault>
     ensures ok { IfOk result (IsTestFormat (first_of (codes "format") (rows_of (found_of given.now)))) }
     ensures err { IfErr result
@@ -49,7 +49,7 @@ fn format_given(alloc: Global, given: &ArgMatches<'_>) -> Result<TestFormat, Usa
     }
 }
 
-/// The files that are to be tested.
+/// The files to test, and the options of the test.
 pub(crate) fn tests(alloc: Global, given: &ArgMatches<'_>) -> Result<Tests, UsageFault>
     ensures ok { IfOk result (AreTests (rows_of (found_of given.now))) }
     ensures err { IfErr result (IsOwn ((t : Tests) → AreTests (rows_of (found_of given.now)) t → ⊥)) }

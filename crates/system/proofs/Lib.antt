@@ -1,6 +1,6 @@
 -- files that are kept
 pub mod Keeping
--- the answer to words that are no request
+-- the answer to words that make no request
 pub mod Telling
 -- the answer if a file could not be read
 pub mod Unread

@@ -1,4 +1,4 @@
--- The answer to words that are no request.
+-- The answer to words that make no request.
 use Rattle.std.proofs.Common.{◌≡◌, ◌⊎◌, inl, inr, ℕ, List, Option, None, Some, refl, subst}
 use Rattle.command.specs.Tests.{RefusesJob, WantJob}
 use Rattle.command.specs.declared.request.Asked.{Asked}
@@ -24,14 +24,14 @@ told all words contents OutOfMemory status old new is help wrong memory untouche
 told all words contents (Help text) status old new is help wrong memory untouched = inr (inr (inl (is, help tt)))
 told all words contents (Wrong text) status old new is help wrong memory untouched = inr (inr (inr (inl (is.0.0, is.1, wrong tt, untouched_by old new (λ none. none) untouched))))
 
--- what words want is done
+-- the job that words request is done
 pub job_served : (all : Contents) (words : List (List ℕ)) (job : Job) (asked : Asked) (read : Contents) (status : ℕ) (old new : Option (List ℕ)) → job ≡ Serve asked → WantJob words job → IsServed asked read status old new → AnswersWords all words read status old new
 job_served all words job asked read status old new is want served = inl (asked, subst (WantJob words) is want, served)
 
 pub job_tested : (all : Contents) (words : List (List ℕ)) (job : Job) (tests : Tests) (read : Contents) (status : ℕ) (old new : Option (List ℕ)) → job ≡ Test tests → WantJob words job → AnswersTests all tests read status → AnswersWords all words read status old new
 job_tested all words job tests read status old new is want tested = inr (inl (tests, subst (WantJob words) is want, tested))
 
--- the files that were read for it
+-- the files that were read for a job
 pub read_to_serve : (words : List (List ℕ)) (job : Job) (asked : Asked) (contents : Contents) (files : List KeptFile) → job ≡ Serve asked → WantJob words job → AreReadFrom (Some asked.request) contents files → AreReadFor words contents files
 read_to_serve words job asked contents files is want read = inl (asked, subst (WantJob words) is want, read)
 

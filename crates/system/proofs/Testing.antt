@@ -1,4 +1,4 @@
--- Questions that pass, one more of them, and files.
+-- Questions that pass, one at a time, and files of them.
 use Rattle.std.proofs.Common.{◌≡◌, ◌∙◌, ◌+◌, ◌<◌, ◌≤◌, ℕ, Bool, true, false, List, [], ◌∷◌, ◌++◌, Option, Some, ap, get_or, length, map, sym, subst, take}
 use Rattle.std.proofs.lemmas.Bool.{false≢true}
 use Rattle.std.proofs.lemmas.List.{map_more, take_all}
@@ -29,7 +29,7 @@ next_question contents file bytes f items k x at low are is =
     subst (AreQuestionsPassed contents file bytes) (sym (map_more f items k x low ∙ ap (λ y. map f (take k items) ++ f y ∷ []) (sym at)))
     (one_more_passed contents file bytes (map f (take k items)) (f x) are is)
 
--- all questions of a list pass, so those that it stands for do
+-- if all questions of a list pass, so do the questions that it represents
 pub all_questions : {X : Type 0} (contents : Contents) (file bytes : List ℕ) (f : X → ℕ × List (List ℕ)) (items found : List X) (k : ℕ) (qs : List (ℕ × List (List ℕ))) → length items ≤ k → items ≡ found → map f found ≡ qs → AreQuestionsPassed contents file bytes (map f (take k items)) → AreQuestionsPassed contents file bytes qs
 all_questions contents file bytes f items found k qs low same is are = subst (AreQuestionsPassed contents file bytes) (ap (map f) (take_all k items low ∙ same) ∙ is) are
 
@@ -39,7 +39,7 @@ next_file contents kept f items k x at low are is =
     subst (AreFilesPassed contents kept) (sym (map_more f items k x low ∙ ap (λ y. map f (take k items) ++ f y ∷ []) (sym at)))
     (one_more_file contents kept (map f (take k items)) (f x) are is)
 
--- the questions of a file that is kept pass
+-- the questions of a kept file pass
 pub kept_file_passed : (contents : Contents) (file bytes : List ℕ) (found : Option (List ℕ)) → found ≡ Some bytes → AreQuestionsPassed contents file bytes (questions_of bytes) → IsSomeAnd found (λ bs. AreQuestionsPassed contents file bs (questions_of bs))
 kept_file_passed contents file bytes found is passed = subst (λ o. IsSomeAnd o (λ bs. AreQuestionsPassed contents file bs (questions_of bs))) (sym is) passed
 

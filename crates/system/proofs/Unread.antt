@@ -56,7 +56,7 @@ two_or_four : (status : ℕ) → (status ≡ 2) ⊎ (status ≡ 4) → (status �
 two_or_four status (inl two) = inr (inl two)
 two_or_four status (inr four) = inr (inr (inl four))
 
--- no question is asked if a file could not be read
+-- no question is answered if a file could not be read
 pub unread_tested : (all : Contents) (tests : Tests) (kept : Contents) (status : ℕ) → (status ≡ 2) ⊎ (status ≡ 4) → AnswersTests all tests kept status
 unread_tested all tests kept status is = record {
   passed = λ none lists. absurd (not_zero status is none);

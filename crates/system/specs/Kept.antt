@@ -15,12 +15,12 @@ kept_in [] name = None
 kept_in (file ∷ files) name =
     if bytes_eq (string_bytes file.name) name then Some file.bytes.items else kept_in files name
 
--- a request reads this file as a source; without a request, files are tested, and all are sources
+-- a request reads this file as a source; without a request, every file is tested, and is a source
 abbrev pub IsReadAsSource : Option Request → (name : List ℕ) → Type 0
 IsReadAsSource (Some request) name = IsSource request name
 IsReadAsSource None name = Unit {0}
 
--- a file was read to its end, or is a source and was read up to one byte past the most that it may have
+-- a file was read to its end; or it is a source, and was read to one byte past its size limit
 abbrev pub IsReadFrom : Option Request → Contents → KeptFile → Type 0
 IsReadFrom request contents file = IfSome (contents (string_bytes file.name))
     (λ bytes. (file.bytes.items ≡ bytes)
@@ -48,6 +48,6 @@ AreKnown (Cover file verbose format coverage) contents = IsFileKnown contents (s
 AreKnown (Explain number) contents = Unit {0}
 AreKnown (ExplainEnd word number) contents = Unit {0}
 
--- the bytes of each file that are known stay the same
+-- the known bytes of each file stay the same
 abbrev pub StayKnown : (old new : Contents) → Type 0
 StayKnown old new = (name : List ℕ) → IsFileKnown old name → new name ≡ old name

@@ -2,7 +2,7 @@
 pub mod Kept
 -- the response to a request
 pub mod Served
--- the answers to questions of files
+-- the answers to questions in files
 pub mod Tests
 -- the response to words
 pub mod Words

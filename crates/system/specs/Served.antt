@@ -5,8 +5,8 @@ use Rattle.serving.specs.Files.{Contents}
 use Rattle.serving.specs.Numbers.{ServesAsked}
 use Rattle.system.specs.Kept.{AreKnown}
 
--- A request is answered, with numbers in place of names if `-D` is given, and each file that it names was read; or
--- nothing is printed, as one of these could not be read, or a name that is defined is in no source.
+-- A request is answered, with numbers in place of names if `-D` is given, and each file that it names was read. Or else
+-- nothing is printed: a file could not be read, or a defined name occurs in no source.
 pub record IsServed (asked : Asked) (contents : Contents) (status : ℕ) (old new : Option (List ℕ)) : Type 0 where
   pub known : AreKnown asked.request contents ⊎ ((status ≡ 2) ⊎ (status ≡ 4)) × (new ≡ old)
   pub served : ServesAsked asked contents status old new

@@ -1,4 +1,4 @@
--- The files that are tested: the answers to their questions.
+-- The answers to questions in tested files.
 use Rattle.std.specs.Prelude.{◌≡◌, ◌⊎◌, ◌∷◌, ℕ, List, [], Some, IsSomeAnd, bytes_eq, codes, false, if◌then◌else◌}
 use Rattle.std.specs.Prelude.{map, string_bytes}
 use Rattle.command.specs.Asked.{Requests}
@@ -10,16 +10,16 @@ use Rattle.system.specs.Kept.{AreReadFrom, kept_in}
 use Rattle.system.specs.Served.{IsServed}
 use Rattle.system.specs.declared.kept.KeptFile.{KeptFile}
 
--- the contents of files, of which the source has these bytes
+-- the contents of files if the source has these bytes
 abbrev pub with_source : (file bytes : List ℕ) → Contents → Contents
 with_source file bytes contents name = if bytes_eq name file then Some bytes else contents name
 
--- the words of a command line: those of `txc outcomes` for a file, and the words of a question
+-- the words of a command line: `txc outcomes` for a file, and then the words of a question
 abbrev pub request_words : (file : List ℕ) → List (List ℕ) → List (List ℕ)
 request_words file words = codes "txc" ∷ codes "outcomes" ∷ file ∷ words
 
--- These words make a request, and it is answered with this status over files that were read, of which the source has
--- these bytes.
+-- These words make a request. It is answered with this status, over files that were read, if the source has these
+-- bytes.
 pub record IsRequestAnswered (contents : Contents) (file bytes : List ℕ) (words : List (List ℕ)) (status : ℕ) : Type 0 where
   pub asked : Asked
   pub requested : Requests words asked
@@ -33,13 +33,13 @@ abbrev pub IsQuestionPassed : Contents → (file bytes : List ℕ) → (words : 
 IsQuestionPassed contents file bytes words =
     IsRequestAnswered contents file bytes (request_words file (without_expected words)) (status_of (expected_of words))
 
--- so is each of these questions, which have the numbers of their lines
+-- likewise for each of these questions, which come with the numbers of their lines
 abbrev pub AreQuestionsPassed : Contents → (file bytes : List ℕ) → List (ℕ × List (List ℕ)) → Type 0
 AreQuestionsPassed contents file bytes [] = Unit {0}
 AreQuestionsPassed contents file bytes (q ∷ qs) =
     IsQuestionPassed contents file bytes q.1 × AreQuestionsPassed contents file bytes qs
 
--- so is each question of these files, whose bytes are kept
+-- likewise for each question in these files, whose bytes are kept
 abbrev pub AreFilesPassed : Contents → (kept : Contents) → List (List ℕ) → Type 0
 AreFilesPassed contents kept [] = Unit {0}
 AreFilesPassed contents kept (file ∷ files) =

@@ -10,8 +10,8 @@ use Rattle.system.specs.Served.{IsServed}
 use Rattle.system.specs.Tests.{AnswersTests}
 use Rattle.system.specs.declared.kept.KeptFile.{KeptFile}
 
--- Words make a request, and it is answered; or they want files tested, and these are, of which other files may be read
--- besides; or they request help, about whose text nothing is stated; or they make no request, and nothing is printed; or
+-- Words make a request, and it is answered. Or they request tests, and their files are tested; other files may be read
+-- for these. Or they request help, whose text is not specified. Or they make no request, and nothing is printed. Or
 -- nothing is printed, with the status of an allocation failure.
 abbrev pub AnswersWords : (all : Contents) → List (List ℕ) → (read : Contents) → (status : ℕ) → (old new : Option (List ℕ)) → Type 0
 AnswersWords all words read status old new =
@@ -21,8 +21,8 @@ AnswersWords all words read status old new =
     ⊎ AskNothing words × WantNoTests words × (status ≡ 2) × (new ≡ old)
     ⊎ (status ≡ 4) × (new ≡ old)
 
--- words make a request, and each of these files was read for it; or they want files tested, which were read; or none
--- was read
+-- words make a request, and each of these files was read for it; or they request tests, and each of these files was
+-- read for them; or no file was read
 abbrev pub AreReadFor : (words : List (List ℕ)) → Contents → List KeptFile → Type 0
 AreReadFor words contents files =
     ((asked : Asked) × Requests words asked × AreReadFrom (Some asked.request) contents files)

@@ -1,4 +1,4 @@
 -- what was recorded
 pub mod Recorded
--- a file that was opened
+-- an opened file
 pub mod Opened

@@ -20,7 +20,7 @@ pub struct KeptFile {
     pub bytes: Vec<u8>,
 }
 
-/// The bytes of the file of a name, if it is kept. If two have this name, it is the first one.
+/// The bytes of the file with this name, if it is kept. If two files have the name, the first one counts.
 pub(crate) fn bytes_of<'k>(files: &'k [KeptFile], name: &str) -> Option<&'k [u8]>
     ensures { option_map (λ s. s.now) result ≡ kept_in files.now name.now }
 {
@@ -66,7 +66,7 @@ struct NamedFile<'n> {
     name: &'n str,
     /// Whether it is to be a source. Then no more of it is read than shows that it is too long.
     is_source: bool,
-    /// Whether the reason is reported if it can't be read.
+    /// Whether the reason is reported if the file can't be read.
     verbose: bool,
 }
 
@@ -142,7 +142,7 @@ fn read_into<F: Files>(
     Ok(())
 }
 
-/// Reads a file and keeps it. The error is the exit status; standard error then says why.
+/// Reads a file and keeps it. The error is the exit status, and the reason is reported on standard error.
 fn keep<F: Files, E: Write>(
     alloc: Global,
     named: &NamedFile<'_>,
@@ -168,7 +168,7 @@ fn keep<F: Files, E: Write>(
     }
 }
 
-/// Reads the files that a request names. The error is the exit status; standard error then says why.
+/// Reads the files that a request names. The error is the exit status, and the reason is reported on standard error.
 pub(crate) fn keep_files<F: Files, E: Write>(
     alloc: Global,
     request: &Request,
@@ -267,7 +267,7 @@ pub(crate) fn keep_files<F: Files, E: Write>(
     Ok(kept)
 }
 
-/// Reads sources. If one can't be read, that is told, and the error is then the exit status.
+/// Reads sources. If one can't be read, the error is the exit status, and the reason is reported on standard error.
 pub(crate) fn keep_sources<F: Files, E: Write>(
     alloc: Global,
     names: &[String],

@@ -1,4 +1,4 @@
-//! Puts a question of a source to `txc outcomes`.
+//! Answers a question of a source as `txc outcomes` does.
 
 ghost use Rattle.std.specs.Prelude.{◌≡◌, IfOk, IfSome, List, map, ℕ};
 ghost use Rattle.command.specs.Asked.{Requests};
@@ -37,7 +37,7 @@ pub(crate) fn request_words<'w>(
     Ok(Some(all))
 }
 
-/// Words that make no request: why.
+/// The fault of words that make no request, with this reason.
 fn wrong(alloc: Global, why: &str) -> UsageFault {
     match String::from_str(alloc, why) {
         Ok(text) => UsageFault::Wrong { text },
@@ -45,7 +45,7 @@ fn wrong(alloc: Global, why: &str) -> UsageFault {
     }
 }
 
-/// What the words of a question ask of a file.
+/// The request that the words of a question make of a file.
 pub(crate) fn asked_of(alloc: Global, file: &str, words: &[&[u8]]) -> Result<Asked, UsageFault>
     ensures { IfOk result (Requests (request_words file.now (map (λ w. w.now) words.now))) }
 {
@@ -63,14 +63,14 @@ pub(crate) fn asked_of(alloc: Global, file: &str, words: &[&[u8]]) -> Result<Ask
 #[derive(Drop)]
 pub(crate) struct QuestionAnswer {
     pub(crate) status: u8,
-    /// What was found.
+    /// The notes on standard output.
     pub(crate) found: Notes,
-    /// What was told on standard error.
+    /// The notes on standard error.
     pub(crate) told: Notes,
 }
 
 impl QuestionAnswer {
-    /// What was found, or else what was told.
+    /// The notes on standard output, or those on standard error if there are none.
     pub(crate) fn notes(&self) -> &[String] {
         if self.found.notes().is_empty() {
             self.told.notes()
@@ -80,7 +80,7 @@ impl QuestionAnswer {
     }
 }
 
-/// Answers what a question asks of a source.
+/// Answers a question of a source.
 pub(crate) fn answer_question<H: Threads + Wait + Clock + Sync, F: Files>(
     rt: &H,
     alloc: Global,

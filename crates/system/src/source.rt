@@ -1,4 +1,4 @@
-//! A source that was read, beside files.
+//! Files, one of which has already been read: the source.
 
 ghost use Rattle.std.specs.Prelude.{◌≡◌};
 ghost use Rattle.system.specs.Tests.{with_source};
@@ -8,7 +8,7 @@ use serving::Files;
 use std::io;
 use std::io::Read;
 
-/// A file that was opened: the source, or another one.
+/// An opened file: the source, or another one.
 #[derive(Drop)]
 pub(crate) enum Opened<'a, R> {
     Source(&'a [u8]),
@@ -26,7 +26,7 @@ impl<R: Read> Read for Opened<'_, R> {
     }
 }
 
-/// Files, of which one was read.
+/// Files, one of which has already been read.
 #[derive(Drop)]
 pub(crate) struct WithSource<'a, F> {
     pub(crate) files: &'a F,

@@ -1,4 +1,4 @@
-//! Tests files: each of their questions.
+//! Tests files by answering each of their questions.
 
 ghost use Rattle.std.specs.Prelude.{◌≡◌, ◌≤◌, ◌⊎◌, IfErr, IfOk, map, string_bytes};
 ghost use Rattle.questions.specs.Questions.{questions_of};
@@ -23,13 +23,13 @@ use verdicts::{
     tell_no_question, tell_unwritten,
 };
 
-/// The exit status where memory or the output was refused.
+/// The exit status after an allocation failure, or if the output can't be written.
 const STOPPED: u8 = 4;
 
-/// The exit status where a question is none.
+/// The exit status if a question is invalid.
 const UNUSABLE: u8 = 2;
 
-/// Says that memory was refused.
+/// Reports an allocation failure.
 fn out_of_memory<E: Write>(err: &mut E) -> u8
     ensures { result ≡ 4 }
 {
@@ -37,7 +37,7 @@ fn out_of_memory<E: Write>(err: &mut E) -> u8
     STOPPED
 }
 
-/// Says why a question is none.
+/// Reports why a question is invalid.
 fn bad_question<E: Write>(
     file: &str,
     question: &Question<'_>,
@@ -55,7 +55,7 @@ fn bad_question<E: Write>(
     }
 }
 
-/// Checks that the questions of a file are requests, and says how many there are.
+/// Checks that the questions of a file are requests, and counts them.
 fn check_file<E: Write>(alloc: Global, file: &KeptFile, err: &mut E) -> Result<usize, u8>
     ensures { IfErr result (λ s. (s ≡ 2) ⊎ (s ≡ 4)) }
 {
@@ -72,7 +72,7 @@ fn check_file<E: Write>(alloc: Global, file: &KeptFile, err: &mut E) -> Result<u
     Ok(questions.len())
 }
 
-/// Checks that all questions are requests, and that there is one.
+/// Checks that all questions are requests, and that there is at least one.
 fn check_all<E: Write>(alloc: Global, files: &[KeptFile], err: &mut E) -> Result<(), u8>
     ensures { IfErr result (λ s. (s ≡ 2) ⊎ (s ≡ 4)) }
 {
@@ -114,7 +114,7 @@ fn list_file<W: Write>(alloc: Global, file: &KeptFile, out: &mut W) -> io::Resul
     Ok(())
 }
 
-/// Prints a command for each question of files.
+/// Prints a command for each question of these files.
 fn list_files<W: Write>(alloc: Global, files: &[KeptFile], out: &mut W) -> io::Result<()> {
     'files: for file in files {
         list_file(alloc, file, out)?;
@@ -122,7 +122,7 @@ fn list_files<W: Write>(alloc: Global, files: &[KeptFile], out: &mut W) -> io::R
     Ok(())
 }
 
-/// Prints a command for each question of files, and gives the exit status.
+/// Prints a command for each question of these files, and returns the exit status.
 fn list_all<W: Write, E: Write>(alloc: Global, files: &[KeptFile], out: &mut W, err: &mut E) -> u8
     ensures { (result ≡ 0) ⊎ (result ≡ 4) }
 {
@@ -135,7 +135,7 @@ fn list_all<W: Write, E: Write>(alloc: Global, files: &[KeptFile], out: &mut W, 
     }
 }
 
-/// The milliseconds since a moment, as far as the clock can be read.
+/// The milliseconds since a moment, or 0 if the clock can't be read.
 fn milliseconds<C: Clock>(clock: &C, since: Option<Instant>) -> u64 {
     let Some(since) = since else {
         return 0;
@@ -149,7 +149,7 @@ fn milliseconds<C: Clock>(clock: &C, since: Option<Instant>) -> u64 {
     }
 }
 
-/// Words, with blanks between them.
+/// Joins words with blanks.
 fn joined(alloc: Global, words: &[&[u8]]) -> Result<String, AllocError> {
     let mut all = String::new(alloc);
     'words: for (number, word) in words.iter().enumerate() {
@@ -162,7 +162,7 @@ fn joined(alloc: Global, words: &[&[u8]]) -> Result<String, AllocError> {
     Ok(all)
 }
 
-/// Tests a question of a source, and reports its answer: the verdict.
+/// Answers a question of a source, reports the answer, and returns the verdict.
 fn test_question<H: Threads + Wait + Clock + Sync, F: Files, W: Write>(
     rt: &H,
     alloc: Global,
@@ -199,7 +199,7 @@ fn test_question<H: Threads + Wait + Clock + Sync, F: Files, W: Write>(
     Ok(verdict)
 }
 
-/// Tests the questions of a source, behind others that were counted.
+/// Tests the questions of a source, and adds their verdicts to an earlier tally.
 fn test_source<H: Threads + Wait + Clock + Sync, F: Files, W: Write>(
     rt: &H,
     alloc: Global,
@@ -222,7 +222,7 @@ fn test_source<H: Threads + Wait + Clock + Sync, F: Files, W: Write>(
     Ok(tally)
 }
 
-/// Tests the questions of files that are kept.
+/// Tests the questions of kept files.
 fn test_files<H: Threads + Wait + Clock + Sync, F: Files, W: Write>(
     rt: &H,
     alloc: Global,
@@ -251,7 +251,7 @@ fn test_files<H: Threads + Wait + Clock + Sync, F: Files, W: Write>(
     Ok(tally)
 }
 
-/// Tests the questions of files that are kept, reports the counts and gives the exit status.
+/// Tests the questions of kept files, reports the tally, and returns the exit status.
 fn test_all<H: Threads + Wait + Clock + Sync, F: Files, W: Write, E: Write>(
     rt: &H,
     alloc: Global,
@@ -281,8 +281,8 @@ fn test_all<H: Threads + Wait + Clock + Sync, F: Files, W: Write, E: Write>(
     }
 }
 
-/// Tests files that are kept, or lists their questions as commands, and gives the exit status. If a question is none,
-/// says so, and prints nothing.
+/// Tests kept files, or lists their questions as commands, and returns the exit status. If a question is invalid,
+/// reports it and prints nothing.
 pub(crate) fn serve_tests<H: Threads + Wait + Clock + Sync, F: Files, W: Write, E: Write>(
     rt: &H,
     alloc: Global,

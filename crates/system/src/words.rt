@@ -43,7 +43,7 @@ struct Served<W> {
     out: W,
 }
 
-/// Answers a request over files that are kept.
+/// Answers a request over kept files.
 fn serve_kept<
     B: Begun,
     H: Threads + Wait + Clock + Sync,
@@ -145,7 +145,7 @@ fn tell_fault<W: Write + Drop, E: Write>(
     }
 }
 
-/// Tests files that are kept.
+/// Tests kept files.
 fn test_kept<B: Begun, H: Threads + Wait + Clock + Sync, F: Files, W: Write + Drop, E: Write>(
     rt: &H,
     alloc: Global,
@@ -170,7 +170,7 @@ fn test_kept<B: Begun, H: Threads + Wait + Clock + Sync, F: Files, W: Write + Dr
     }
 }
 
-/// Reads files, and tests them. If one can't be read, says so and prints nothing.
+/// Reads files and tests them. If one can't be read, reports it and prints nothing.
 fn test<H: Threads + Wait + Clock + Sync, F: Files, W: Write + Drop, E: Write>(
     rt: &H,
     alloc: Global,
@@ -211,7 +211,7 @@ fn test<H: Threads + Wait + Clock + Sync, F: Files, W: Write + Drop, E: Write>(
     }
 }
 
-/// Does what words want done.
+/// Does the job that words request.
 fn serve_job<
     H: Threads + Wait + Clock + Sync,
     F: Files,

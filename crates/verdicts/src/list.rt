@@ -1,22 +1,22 @@
-//! Questions as commands, and questions that are none.
+//! Questions as commands, and invalid questions.
 
 use crate::report::write_shown;
 use questions::Expected;
 use std::io;
 use std::io::{ErrorKind, Write};
 
-/// Whether a shell takes a character as it is.
+/// Whether a character needs no quoting in a shell.
 fn is_plain(c: char) -> bool {
     c.is_ascii_alphanumeric()
         || matches!(c, '_' | '-' | '.' | ',' | '/' | '=' | ':' | '+' | '@' | '%')
 }
 
-/// Whether a shell takes a word as it is.
+/// Whether a word needs no quoting in a shell.
 fn is_plain_word(word: &str) -> bool {
     !word.is_empty() && word.chars().all(is_plain)
 }
 
-/// Writes a word as a shell takes it.
+/// Writes a word, quoted for a shell if that is needed.
 fn write_word<W: Write>(word: &str, out: &mut W) -> io::Result<()> {
     if is_plain_word(word) {
         return out.write_all(word.as_bytes());
@@ -32,7 +32,7 @@ fn write_word<W: Write>(word: &str, out: &mut W) -> io::Result<()> {
     out.write_all(b"'")
 }
 
-/// Writes the command that these words are. It succeeds if the answer is the expected one.
+/// Writes words as a shell command. It succeeds if the answer is the expected one.
 pub fn list_command<W: Write>(words: &[&str], expected: Expected, out: &mut W) -> io::Result<()> {
     'words: for (number, word) in words.iter().enumerate() {
         if number > 0 {
@@ -48,7 +48,7 @@ pub fn list_command<W: Write>(words: &[&str], expected: Expected, out: &mut W) -
     }
 }
 
-/// Says that a question is none, and why. What is not taken is lost.
+/// Reports that a question is invalid, and why. Errors of the writer are ignored.
 pub fn tell_bad_question<E: Write>(file: &str, line: usize, column: usize, why: &str, err: &mut E) {
     let _ = err.write_all(b"txc: ");
     let _ = write_shown(file, err);
@@ -57,12 +57,12 @@ pub fn tell_bad_question<E: Write>(file: &str, line: usize, column: usize, why: 
     let _ = writeln!(err);
 }
 
-/// Says that no file has a question.
+/// Reports that no file contains a question.
 pub fn tell_no_question<E: Write>(err: &mut E) {
     let _ = writeln!(err, "txc: no line begins with // txc:");
 }
 
-/// Says that memory or the output was refused.
+/// Reports an allocation failure, or that the output can't be written.
 pub fn tell_unwritten<E: Write>(error: &io::Error, err: &mut E) {
     let _ = match error.kind() {
         ErrorKind::OutOfMemory => writeln!(err, "txc: out of memory"),
@@ -70,7 +70,7 @@ pub fn tell_unwritten<E: Write>(error: &io::Error, err: &mut E) {
     };
 }
 
-/// The first line of the reason that is given for wrong words, without what it begins with.
+/// The first line of the reason why words are wrong, without its prefix.
 fn first_line(why: &str) -> &str {
     let line = match why.split_once('\n') {
         Some((line, _)) => line,

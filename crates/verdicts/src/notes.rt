@@ -1,26 +1,26 @@
-//! What is kept of the output of `txc outcomes`.
+//! The lines that are kept of the output of `txc outcomes`.
 
 use std::alloc::{AllocError, Global};
 use std::io;
 use std::io::{IsTerminal, Write};
 
-/// The most notes that are kept, the last ones.
+/// How many notes are kept at most: the last ones.
 const MOST_NOTES: usize = 16;
 
-/// The most bytes that are kept of a line.
+/// How many bytes of a line are kept at most.
 const LONGEST: usize = 4096;
 
-/// Keeps the lines of an output that say what was found, without the reports behind them.
+/// Keeps the lines of an output that state findings, without the reports that follow them.
 #[derive(Drop)]
 pub struct Notes {
     alloc: Global,
-    /// The line that is being written.
+    /// The current line.
     line: Vec<u8>,
     notes: Vec<String>,
     has_stuck: bool,
 }
 
-/// What a line says was found, if it does: what follows `== ` or `txc: `.
+/// The finding that a line states, if any: the text after `== ` or `txc: `.
 fn note_of(line: &[u8]) -> Option<&[u8]> {
     let Some(found) = line.strip_prefix(b"== ".as_slice()) else {
         return line.strip_prefix(b"txc: ".as_slice());
@@ -36,7 +36,7 @@ fn note_of(line: &[u8]) -> Option<&[u8]> {
 }
 
 impl Notes {
-    /// Nothing was written yet.
+    /// No output yet.
     pub fn new(alloc: Global) -> Notes {
         Notes {
             alloc,
@@ -51,7 +51,7 @@ impl Notes {
         self.has_stuck
     }
 
-    /// What was found.
+    /// The findings.
     pub fn notes(&self) -> &[String] {
         self.notes.as_slice()
     }
@@ -64,7 +64,7 @@ impl Notes {
         let _ = self.notes.push(note);
     }
 
-    /// The note of the line that was written.
+    /// The note of the current line, if it has one.
     fn note(&self) -> Result<Option<String>, AllocError> {
         match note_of(self.line.as_slice()) {
             Some(note) => Ok(Some(String::from_utf8_lossy(self.alloc, note)?)),
@@ -72,7 +72,7 @@ impl Notes {
         }
     }
 
-    /// A line ends.
+    /// Ends the current line.
     fn end_line(&mut self) {
         if self.line.as_slice().starts_with(b"== stuck ") {
             self.has_stuck = true;
@@ -83,7 +83,7 @@ impl Notes {
         self.line.clear();
     }
 
-    /// Takes a byte.
+    /// Adds a byte to the output.
     fn take(&mut self, byte: u8) {
         if byte == b'\n' {
             self.end_line();

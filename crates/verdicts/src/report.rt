@@ -1,4 +1,4 @@
-//! Answers to questions, as they are reported.
+//! Reports of answers to questions.
 
 use crate::tally::Tally;
 use crate::verdict::Verdict;
@@ -15,17 +15,17 @@ pub struct Answered<'a> {
     pub file: &'a str,
     pub line: usize,
     pub column: usize,
-    /// The words of the question, with blanks between them.
+    /// The words of the question, separated by blanks.
     pub words: &'a str,
     pub expected: Expected,
     pub status: u8,
     pub verdict: Verdict,
     pub milliseconds: u64,
-    /// What was found.
+    /// The findings.
     pub notes: &'a [String],
 }
 
-/// The word of an expected answer.
+/// The word for an expected answer.
 fn name_of(expected: Expected) -> &'static str {
     match expected {
         Expected::Holds => "holds",
@@ -43,7 +43,7 @@ pub(crate) fn write_shown<W: Write>(text: &str, to: &mut W) -> io::Result<()> {
     Ok(())
 }
 
-/// Writes what was found, and the time.
+/// Writes the findings and the time.
 fn write_notes<W: Write>(answer: &Answered<'_>, out: &mut W) -> io::Result<()> {
     'notes: for note in answer.notes {
         write_shown(note.as_str(), out)?;
@@ -52,7 +52,7 @@ fn write_notes<W: Write>(answer: &Answered<'_>, out: &mut W) -> io::Result<()> {
     write!(out, "{} ms", answer.milliseconds)
 }
 
-/// Writes an answer in a line with the place of the question.
+/// Writes an answer as a line with the position of the question.
 fn write_plain<W: Write>(answer: &Answered<'_>, out: &mut W) -> io::Result<()> {
     write_shown(answer.file, out)?;
     write!(out, ":{}: {}: ", answer.line, answer.verdict.name())?;
@@ -62,7 +62,7 @@ fn write_plain<W: Write>(answer: &Answered<'_>, out: &mut W) -> io::Result<()> {
     out.write_all(b")\n")
 }
 
-/// How a character is written in a property of an annotation, if not as it is.
+/// The escape of a character in a property of an annotation, if it needs one.
 fn escape_of(c: char) -> Option<&'static str> {
     match c {
         '%' => Some("%25"),
@@ -72,7 +72,7 @@ fn escape_of(c: char) -> Option<&'static str> {
     }
 }
 
-/// Writes a value of a property of an annotation.
+/// Writes the value of a property of an annotation.
 fn write_property<W: Write>(text: &str, out: &mut W) -> io::Result<()> {
     'characters: for c in text.chars() {
         match escape_of(c) {
@@ -84,7 +84,7 @@ fn write_property<W: Write>(text: &str, out: &mut W) -> io::Result<()> {
     Ok(())
 }
 
-/// Writes a text of an annotation.
+/// Writes the message of an annotation.
 fn write_message<W: Write>(text: &str, out: &mut W) -> io::Result<()> {
     'characters: for c in text.chars() {
         match c {
@@ -96,7 +96,7 @@ fn write_message<W: Write>(text: &str, out: &mut W) -> io::Result<()> {
     Ok(())
 }
 
-/// Writes an answer as an annotation of GitHub.
+/// Writes an answer as a GitHub annotation.
 fn write_annotation<W: Write>(answer: &Answered<'_>, out: &mut W) -> io::Result<()> {
     out.write_all(b"::error file=")?;
     write_property(answer.file, out)?;
@@ -116,19 +116,19 @@ fn write_annotation<W: Write>(answer: &Answered<'_>, out: &mut W) -> io::Result<
     writeln!(out, "{} ms)", answer.milliseconds)
 }
 
-/// Adds a member of an object whose value is a text.
+/// Adds a member to an object, with a text as its value.
 fn put_text(to: &mut Writer, key: &str, text: &str) -> Result<(), AllocError> {
     to.key(key)?;
     to.string(text)
 }
 
-/// Adds a member of an object whose value is a number.
+/// Adds a member to an object, with a number as its value.
 fn put_number(to: &mut Writer, key: &str, number: u64) -> Result<(), AllocError> {
     to.key(key)?;
     to.u64(number)
 }
 
-/// Adds what was found.
+/// Adds the findings.
 fn put_notes(to: &mut Writer, notes: &[String]) -> Result<(), AllocError> {
     to.key("notes")?;
     to.begin_array()?;
@@ -138,7 +138,7 @@ fn put_notes(to: &mut Writer, notes: &[String]) -> Result<(), AllocError> {
     to.end_array()
 }
 
-/// An answer as an object of JSON, in one line.
+/// An answer as a JSON object on one line.
 fn object(alloc: Global, answer: &Answered<'_>) -> Result<Vec<u8>, AllocError> {
     let mut to = Writer::new(Vec::new(alloc));
     to.begin_object()?;
@@ -157,7 +157,7 @@ fn object(alloc: Global, answer: &Answered<'_>) -> Result<Vec<u8>, AllocError> {
     Ok(line)
 }
 
-/// The numbers of verdicts as an object of JSON, in one line.
+/// The counts of verdicts as a JSON object on one line.
 fn tally_object(alloc: Global, tally: Tally) -> Result<Vec<u8>, AllocError> {
     let mut to = Writer::new(Vec::new(alloc));
     to.begin_object()?;
@@ -171,7 +171,7 @@ fn tally_object(alloc: Global, tally: Tally) -> Result<Vec<u8>, AllocError> {
     Ok(line)
 }
 
-/// Writes an object, if there was memory for it.
+/// Writes an object, unless an allocation failed.
 fn write_object<W: Write>(object: Result<Vec<u8>, AllocError>, out: &mut W) -> io::Result<()> {
     match object {
         Ok(line) => out.write_all(line.as_slice()),
@@ -194,7 +194,7 @@ pub fn report_answer<W: Write>(
     out.flush()
 }
 
-/// Writes a further number of verdicts, if there are any.
+/// Writes another count of verdicts, unless it is 0.
 fn write_further<W: Write>(number: u64, name: &str, out: &mut W) -> io::Result<()> {
     if number == 0 {
         return Ok(());
@@ -202,7 +202,7 @@ fn write_further<W: Write>(number: u64, name: &str, out: &mut W) -> io::Result<(
     write!(out, ", {number} {name}")
 }
 
-/// Reports how many questions have which verdict.
+/// Reports the number of questions with each verdict.
 pub fn report_tally<W: Write>(
     alloc: Global,
     tally: Tally,

@@ -1,11 +1,11 @@
-//! How many questions have which verdict.
+//! The number of questions with each verdict.
 
 ghost use Rattle.std.specs.Prelude.{◌≡◌, ◌⊎◌};
 ghost use Rattle.verdicts.specs.Verdicts.{HaveAllPassed};
 
 use crate::verdict::Verdict;
 
-/// How many questions have which verdict.
+/// The number of questions with each verdict.
 #[derive(Clone, Copy, Debug)]
 pub struct Tally {
     pub passed: u64,
@@ -15,7 +15,7 @@ pub struct Tally {
 }
 
 impl Tally {
-    /// No question yet.
+    /// No questions yet.
     pub fn new() -> Tally
         ensures { HaveAllPassed result }
     {
@@ -27,7 +27,7 @@ impl Tally {
         }
     }
 
-    /// These, and one more.
+    /// This tally with one more verdict.
     pub fn with(self, verdict: Verdict) -> Tally
         ensures this { HaveAllPassed result → verdict ≡ Verdict.Passed }
         ensures before { HaveAllPassed result → HaveAllPassed self }
@@ -52,7 +52,7 @@ impl Tally {
         }
     }
 
-    /// The exit status: 0 if all have passed, and else that of the worst verdict.
+    /// The exit status: 0 if all have passed, and otherwise that of the worst verdict.
     pub fn status(self) -> u8
         ensures passed { result ≡ 0 → HaveAllPassed self }
         ensures others { (result ≡ 0) ⊎ (result ≡ 2) ⊎ (result ≡ 4) ⊎ (result ≡ 5) }

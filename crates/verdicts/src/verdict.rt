@@ -8,18 +8,18 @@ use questions::Expected;
 /// A verdict on the answer to a question.
 #[derive(Clone, Copy, Debug, PartialEq, Eq)]
 pub enum Verdict {
-    /// It is the expected one.
+    /// The answer is the expected one.
     Passed,
-    /// It is another one.
+    /// The answer is another one.
     Failed,
-    /// There is none: the search stopped early, or memory ran out.
+    /// There is no answer: the search stopped early, or an allocation failed.
     Undecided,
     /// The program or a word of the question was refused, or a file could not be read.
     Refused,
 }
 
 impl Verdict {
-    /// The word for it.
+    /// The word for the verdict.
     pub fn name(self) -> &'static str {
         match self {
             Verdict::Passed => "passed",
@@ -41,7 +41,7 @@ fn other_verdict(status: u8, has_stuck: bool) -> Verdict
     }
 }
 
-/// The verdict on an exit status of `txc outcomes`, which has listed a stuck order or none.
+/// The verdict on an exit status of `txc outcomes`, and on whether it listed a stuck order.
 pub fn judge(expected: Expected, status: u8, has_stuck: bool) -> Verdict
     ensures { result ≡ Verdict.Passed → status ≡ status_of expected }
 {

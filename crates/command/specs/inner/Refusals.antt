@@ -46,7 +46,7 @@ pub record HasGiven (met : Option (Text × List Row)) (asked : Asked) : Type 0 w
   pub command : met ≡ Some (name, given)
   pub made : IsCommanded name given asked
 
--- the words name a command, and its arguments want this done
+-- the words name a command that requests this job with its arguments
 pub record HasJob (met : Option (Text × List Row)) (job : Job) : Type 0 where
   pub name : Text
   pub given : List Row

@@ -1,4 +1,4 @@
--- A file that was opened: the source, or another one.
+-- An opened file: the source, or another one.
 use Rattle.std.specs.Prelude.{List, Option, Some, ℕ}
 use Rattle.system.specs.declared.source.Opened.{Opened}
 use Rattle.system.specs.declared.source.Opened.TheVariants.{Source, Other}

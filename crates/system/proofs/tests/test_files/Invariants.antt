@@ -5,6 +5,6 @@ use Rattle.system.specs.Tests.{AreFilesPassed}
 use Rattle.verdicts.specs.Verdicts.{HaveAllPassed}
 use Rattle.system.proofs.tests.test_files.Given as goal
 
--- if all have passed, those of the files so far have
+-- if all questions have passed, so have those of the files so far
 abbrev pub invariant-names : goal.invariant-names
 invariant-names g l = HaveAllPassed l.tally → AreFilesPassed (g.F.Files.contents l.files) (kept_in l.kept) (map string_bytes (take l.name-index l.name-items))

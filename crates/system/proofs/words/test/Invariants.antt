@@ -1,5 +1,5 @@
 use Rattle.system.proofs.words.test.Given as goal
 
--- what the writer holds when recording begins
+-- the writer's contents when recording begins
 abbrev pub ghosts-test_kept : goal.ghosts-test_kept
 ghosts-test_kept g a = record { begun = g.W.Write.contents a.out }
