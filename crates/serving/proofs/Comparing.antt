@@ -235,7 +235,7 @@ module _ (text other : List ℕ) (this that : ParsedSource) (spelled : IsSourceO
       (says_so (λ k t b a. Tells (SaysRefines name k this.program that.program) (ShowsBeyond name k this.program that.program) t b a) (λ k t b a. Tells (SaysRefined name k text other) (ShowsOther name k text other) t b a) (refined_tells name) more first status old new)
       (part_in_turn (λ k w. IsEither (SaysRefines name k this.program that.program) (ShowsBeyond name k this.program that.program) w) (λ k w. IsEither (SaysRefined name k text other) (ShowsOther name k text other) w) (refined_either name) more first old new)
 
--- the same for so many numbers of threads after the first
+-- likewise for this many numbers of threads after the first
 module _ (name : List ℕ) (text : List ℕ) (more first : ℕ) where
   abbrev pub AreRefinedTold : (bytes : List ℕ) → (status : ℕ) → (old new : Option (List ℕ)) → Type 0
   AreRefinedTold bytes status old new = SaysInTurn (λ k t b a. Tells (SaysRefined name k text bytes) (ShowsOther name k text bytes) t b a) more first status old new

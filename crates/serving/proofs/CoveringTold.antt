@@ -1,4 +1,4 @@
--- What a status says of properties for every number of threads.
+-- The meaning of a status for properties and every number of threads.
 use Rattle.std.proofs.Common.{◌≡◌, ◌≢◌, ◌==◌, ◌⊎◌, ◌||◌, inl, ℕ, Bool, true, false, List, [], ◌∷◌, Option, Some, map, ap, subst, refl, arith}
 use Rattle.std.specs.Prelude.{string_bytes}
 use Rattle.std.specs.List.{list_any, slice_split}
@@ -36,7 +36,7 @@ module _ (Is Are : List CoveredProperty → Type 0) (so : (ps : List CoveredProp
   pub coverings_so : (status : ℕ) (old new : Option (List ℕ)) → PrintsCoverings Is status old new → PrintsCoverings Are status old new
   coverings_so status old new s = serves_so s (tells_so status old new) (parts_so old new)
 
--- of an accepted program, and of the text that spells it
+-- an accepted program, and the text that spells it
 module _ (coverage : Coverage) (text : List ℕ) (source : ParsedSource) (spelled : IsSourceOf text source) (accepted : ∥ IsAccepted source.program ∥₁) where
   abbrev Theirs : List CoveredProperty → Type 0
   Theirs = AreCoveredOf source.program coverage.steps (slice_split (λ b. b == 44) (string_bytes coverage.always))
@@ -48,7 +48,7 @@ module _ (coverage : Coverage) (text : List ℕ) (source : ParsedSource) (spelle
   serves_covered status old new s =
       serves_so s (tells_so Theirs (AreCoveredOfText coverage text) covered_of_text status old new) (parts_so Theirs (AreCoveredOfText coverage text) covered_of_text old new)
 
--- of names that are the same
+-- the same names have the same findings
 pub prints_named : (p : Program) (steps : ℕ) (these names : List (List ℕ)) (status : ℕ) (old new : Option (List ℕ)) → these ≡ names → PrintsCoverings (AreCoveredOf p steps these) status old new → PrintsCoverings (AreCoveredOf p steps names) status old new
 prints_named p steps these names status old new same = subst (λ xs. PrintsCoverings (AreCoveredOf p steps xs) status old new) same
 
@@ -69,7 +69,7 @@ pub any_covered : {A : Type 0} (test : CoveredFinding → Bool) (rs : List (Own 
 any_covered test [] = refl
 any_covered test (r ∷ rs) = ap (λ b. test (covering_of r).finding || b) (any_covered test rs)
 
--- ---- a status that says nothing
+-- ---- a status that reports nothing
 
 pub says_nothing : (Are : List CoveredProperty → Type 0) (status : ℕ) (old new : Option (List ℕ)) → status ≢ 0 → status ≢ 5 → TellsCoverings Are status old new
 says_nothing Are status old new zero five = record { held = λ e. absurd (zero e); failed = λ e. absurd (five e) }

@@ -2,9 +2,9 @@
 use Rattle.std.specs.Prelude.{◌≡◌, ◌≢◌, ◌⊎◌, ◌++◌, ◌-◌, ℕ, zero, suc, List, Option}
 use Rattle.command.specs.declared.request.ThreadRange.{ThreadRange}
 
--- The meaning of a status for a number of threads and so many numbers after it. The search is repeated for each in
--- turn, up to the first whose status is not 0. The status is that of the last one, and each answer follows the one
--- before.
+-- The meaning of a status for a number of threads and this many numbers after it. The search is repeated for each
+-- number in turn, up to the first whose status is not 0. The status is that of the last search. Each answer follows the
+-- one before.
 module _ (Says : (threads status : ℕ) → (old new : Option (List ℕ)) → Type 0) where
   abbrev pub SaysInTurn : (more threads status : ℕ) → (old new : Option (List ℕ)) → Type 0
   SaysInTurn zero threads status old new = Says threads status old new

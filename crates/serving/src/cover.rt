@@ -41,8 +41,8 @@ pub(crate) fn open_covered<A: Allocator + Copy, F: Files, W: Write, E: Write>(
     }
 }
 
-/// Reports whether functions of a source hold for every number of threads. The status is 0 if all do, 5 if some function
-/// fails, and else as `serve` says.
+/// Reports whether functions of a source hold for every number of threads. The status is 0 if all do, and 5 if some
+/// function fails. Otherwise it is as for `serve`.
 pub(crate) fn cover<A: Allocator + Copy, R: Read + Drop, W: Write, E: Write>(
     alloc: A,
     coverage: &Coverage,
@@ -93,7 +93,7 @@ fn cover_program<A: Allocator + Copy, W: Write, E: Write>(
     }
 }
 
-/// How far a search for answers goes.
+/// The limits of a search for answers.
 fn extent_of(coverage: &Coverage) -> Extent
     ensures { result.steps ≡ coverage.now.steps }
 {
@@ -127,7 +127,7 @@ fn cover_names<A: Allocator + Copy, W: Write, E: Write>(
     }
 }
 
-/// Prints what was found of properties, and gives the exit status.
+/// Prints findings about properties, and returns the exit status.
 fn print_covered<A: Allocator + Copy, W: Write, E: Write>(
     alloc: A,
     found: &[CoveredProperty<A>],
@@ -171,15 +171,15 @@ fn fails<A: Allocator>(one: &CoveredProperty<A>) -> bool
     }
 }
 
-/// Whether one of these is not reported to hold: a call of its own, since the prover sees `any` by the elements as they
-/// are.
+/// Whether one of these is not reported to hold. This is a function of its own, since the prover evaluates `any` over
+/// the elements themselves.
 fn one_is_unheld<A: Allocator>(properties: &[CoveredProperty<A>]) -> bool
     ensures { result ≡ list_any (λ r. not (holds_covered (covering_of r).finding)) properties.now }
 {
     properties.iter().any(|one| is_unheld(one))
 }
 
-/// Whether one of these is reported to fail: a call of its own, as the one before.
+/// Whether one of these is reported to fail. This is a function of its own for the same reason.
 fn one_fails<A: Allocator>(properties: &[CoveredProperty<A>]) -> bool
     ensures { result ≡ list_any (λ r. fails_covered (covering_of r).finding) properties.now }
 {
@@ -200,7 +200,7 @@ fn some_fails<A: Allocator>(properties: &[CoveredProperty<A>]) -> bool
     one_fails(properties)
 }
 
-/// The exit status of findings.
+/// The exit status for findings.
 fn status_of_covered<A: Allocator>(found: &[CoveredProperty<A>]) -> u8
     ensures within { result ≤ 5 }
     ensures not_refused { result ≢ 1 }

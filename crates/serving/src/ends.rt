@@ -111,7 +111,7 @@ impl HasEnd for ThreadSeen<'_> {
     }
 }
 
-/// A thread of which it is told where its steps are used up, or nothing.
+/// A thread that is reported where its steps are used up, or not at all.
 #[derive(Drop)]
 struct LongThread {
     is_long: bool,
@@ -127,7 +127,7 @@ impl HasEnd for LongThread {
     }
 }
 
-/// Tells where the steps of threads are used up that these show as out of ticks.
+/// Reports where threads use up their steps: those that are shown as out of ticks.
 pub(crate) fn tell_long<A: Allocator + Copy, E: Write>(
     alloc: A,
     text: &str,

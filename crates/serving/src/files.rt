@@ -46,10 +46,11 @@ pub trait Files {
 /// Opens the files that a request names, does what is asked over them and two writers, and gives the exit status, as
 /// `serve` does.
 ///
-/// The source is opened first, and then a schedule, or an order and a report, or what outcomes are compared with, where
-/// they are named. What cannot be opened is told of as what cannot be read. The line of a fault follows it where `err` is
-/// a terminal, or the words ask for it. A line that tells there how far a walk over states is has the seconds since it
-/// was asked for, by the clock of `rt`. By it a search ends that may take so many seconds.
+/// The source is opened first, and then a schedule, or an order and a report, or the file with which outcomes are
+/// compared, if the request names them. A file that cannot be opened is reported as one that cannot be read. The source
+/// line of a fault follows the fault if `err` is a terminal, or if the request asks for it. A progress line on a
+/// terminal has the seconds since the request, by the clock of `rt`. The same clock ends a search that has a time
+/// limit.
 pub fn serve_files<
     H: Threads + Wait + Clock + Sync,
     F: Files,
@@ -309,7 +310,7 @@ pub(crate) fn lines_in_order<A: Allocator + Copy, E: Write>(
     }
 }
 
-/// The lines of an order of whole transactions, if there are any. Nothing is told.
+/// The lines of an order of whole transactions, if there are any. Nothing is reported.
 pub(crate) fn lines_if_any<A: Allocator + Copy>(
     alloc: A,
     code: &Code<A>,

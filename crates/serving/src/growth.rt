@@ -1,4 +1,5 @@
-//! Where a search for nodes was stopped, and which global has the most values in their memories: for standard error.
+//! Reports on standard error where a search for nodes stopped, and which global has the most values in the nodes'
+//! memories.
 
 use coverings::Covering;
 use messages::write_shown;
@@ -6,7 +7,7 @@ use std::alloc::Allocator;
 use std::io::Write;
 use syntax::tree::{Item, Unit};
 
-/// The least and the greatest value of a cell so far, and how often one of these changed.
+/// The least and the greatest value of a cell so far, and how often one of them changed.
 #[derive(Clone, Copy)]
 struct Values {
     least: u64,
@@ -14,14 +15,14 @@ struct Values {
     changes: u64,
 }
 
-/// A global, and how many values it has at least.
+/// A global, and a lower bound on its number of values.
 #[derive(Clone, Copy)]
 struct Growing<'u> {
     name: &'u str,
     values: u64,
 }
 
-/// With one value more.
+/// These values, and one more.
 fn widened(before: Option<Values>, word: u64) -> Values {
     let Some(values) = before else {
         return Values {
@@ -40,7 +41,7 @@ fn widened(before: Option<Values>, word: u64) -> Values {
     }
 }
 
-/// How many values a cell has at least.
+/// A lower bound on the number of values of a cell.
 fn values_of<A: Allocator + Copy>(covering: &Covering<A>, cell: usize) -> u64 {
     let mut values = None;
     'memories: for number in 0..covering.memories() {
@@ -54,7 +55,7 @@ fn values_of<A: Allocator + Copy>(covering: &Covering<A>, cell: usize) -> u64 {
     }
 }
 
-/// How many values one of these cells has at least: the most of them.
+/// The largest such bound for these cells.
 fn most_values<A: Allocator + Copy>(covering: &Covering<A>, from: usize, to: usize) -> u64 {
     let mut most = 0;
     'cells: for cell in from..to {
@@ -92,7 +93,7 @@ fn widest_global<'u, A: Allocator + Copy>(
     found
 }
 
-/// What stopped a search for nodes.
+/// The limit that stopped a search for nodes.
 fn stop_words<A: Allocator + Copy>(covering: &Covering<A>) -> &'static str {
     if covering.is_full() {
         "memory"
@@ -103,7 +104,7 @@ fn stop_words<A: Allocator + Copy>(covering: &Covering<A>) -> &'static str {
     }
 }
 
-/// Tells where a search for nodes was stopped, and which global has the most values in their memories.
+/// Reports where a search for nodes stopped, and which global has the most values in the nodes' memories.
 pub(crate) fn tell_growth<A: Allocator + Copy, E: Write>(
     unit: &Unit<A>,
     covering: &Covering<A>,

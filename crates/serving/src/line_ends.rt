@@ -1,8 +1,8 @@
-//! Whether two texts differ in line ends alone, told after their first difference. No contract speaks of it.
+//! Reports whether two texts differ only in line ends, after their first difference. No contract covers this.
 
 use std::io::Write;
 
-/// Tells whether only carriage returns make a text differ from the one that is due, or only its last line end.
+/// Reports whether two texts differ only in carriage returns, or only in the last line end.
 pub(crate) fn tell_line_ends<E: Write>(due: &[u8], found: &[u8], err: &mut E) {
     if is_one_line_end_longer(due, found) || is_one_line_end_longer(found, due) {
         let _ = err.write_all(b"txc: they differ only in the last line end\n");
@@ -11,7 +11,7 @@ pub(crate) fn tell_line_ends<E: Write>(due: &[u8], found: &[u8], err: &mut E) {
     }
 }
 
-/// Whether a text is another with one more line end.
+/// Whether a text is another one followed by a line end.
 fn is_one_line_end_longer(text: &[u8], other: &[u8]) -> bool {
     match text {
         [others @ .., b'\n'] => others == other,
@@ -19,7 +19,7 @@ fn is_one_line_end_longer(text: &[u8], other: &[u8]) -> bool {
     }
 }
 
-/// Whether texts are the same without carriage returns.
+/// Whether texts are equal without their carriage returns.
 fn are_same_without_returns(due: &[u8], found: &[u8]) -> bool {
     let mut rest = found;
     'bytes: for byte in due {
@@ -36,7 +36,7 @@ fn are_same_without_returns(due: &[u8], found: &[u8]) -> bool {
     without_returns(rest).is_empty()
 }
 
-/// A text without the carriage returns at its beginning.
+/// A text without its leading carriage returns.
 fn without_returns(text: &[u8]) -> &[u8] {
     'bytes: for (at, byte) in text.iter().enumerate() {
         if *byte != b'\r' {

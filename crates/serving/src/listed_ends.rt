@@ -71,7 +71,7 @@ pub(crate) fn tell_asked_ends<A: Allocator + Copy, E: Write>(
     }
 }
 
-/// Whether it is known of a property that it fails, or takes too long.
+/// Whether a property has an answer.
 fn is_answered<A: Allocator>(one: &Property<A>) -> bool {
     match &one.finding {
         Finding::Open(_) => false,
@@ -79,7 +79,7 @@ fn is_answered<A: Allocator>(one: &Property<A>) -> bool {
     }
 }
 
-/// Tells which properties have an answer, and which have none, if some have one.
+/// Reports which properties have an answer and which have none, if some have one.
 fn tell_answered<A: Allocator, E: Write>(properties: &[Property<A>], err: &mut E) {
     if properties.iter().any(|one| is_answered(one)) {
         tell_names(b"txc: answered: ", properties, true, err);
@@ -87,7 +87,7 @@ fn tell_answered<A: Allocator, E: Write>(properties: &[Property<A>], err: &mut E
     }
 }
 
-/// Tells the names of the properties that have an answer, or of the others, after these words.
+/// Reports the names of the properties that have an answer, or of those that have none, after these words.
 fn tell_names<A: Allocator, E: Write>(
     words: &[u8],
     properties: &[Property<A>],
@@ -107,10 +107,10 @@ fn tell_names<A: Allocator, E: Write>(
     }
 }
 
-/// After how many ticks a thread of the source is taken for one whose turn is too long.
+/// The number of ticks after which a thread's turn counts as too long.
 const LONG_TICKS: u64 = 1000000;
 
-/// Tells why a search stopped.
+/// Reports why a search stopped.
 fn tell_reason<A: Allocator + Copy, E: Write>(
     alloc: A,
     text: &str,

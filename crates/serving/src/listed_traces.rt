@@ -1,5 +1,5 @@
-//! How what a search finds first comes about, told behind the list by traces: the first order after which a property fails,
-//! the first stuck one, and the first in which a thread traps.
+//! Traces of what a search finds first, reported after its list: of the first order after which a property fails, of
+//! the first stuck order, and of the first order in which a thread traps.
 
 use crate::print::has_trapped;
 use crate::program::Compiled;
@@ -11,7 +11,7 @@ use report::{Finding, ReportedOrder};
 use std::alloc::Allocator;
 use std::io::Write;
 
-/// Tells the trace of the first of these orders.
+/// Reports the trace of the first of these orders.
 fn tell_first<A: Allocator + Copy, E: Write>(
     alloc: A,
     text: &str,
@@ -25,7 +25,7 @@ fn tell_first<A: Allocator + Copy, E: Write>(
     }
 }
 
-/// Tells the trace of the first of these outcomes in which a thread traps.
+/// Reports the trace of the first of these outcomes in which a thread traps.
 fn tell_first_trapped<A: Allocator + Copy, E: Write>(
     alloc: A,
     text: &str,
@@ -42,7 +42,8 @@ fn tell_first_trapped<A: Allocator + Copy, E: Write>(
     }
 }
 
-/// Tells the traces of the first listed outcome in which a thread traps, and of the first stuck order, if they are wanted.
+/// If traces are wanted, reports those of the first listed outcome in which a thread traps, and of the first stuck
+/// order.
 pub(crate) fn tell_listed_traces<A: Allocator + Copy, E: Write>(
     alloc: A,
     text: &str,
@@ -59,7 +60,7 @@ pub(crate) fn tell_listed_traces<A: Allocator + Copy, E: Write>(
     tell_first(alloc, text, compiled, threads, stuck, teller.err);
 }
 
-/// Tells the traces of the first order after which a property fails, and of the first stuck order, if they are wanted.
+/// If traces are wanted, reports those of the first order after which a property fails, and of the first stuck order.
 pub(crate) fn tell_asked_traces<A: Allocator + Copy, E: Write>(
     alloc: A,
     text: &str,
@@ -77,7 +78,7 @@ pub(crate) fn tell_asked_traces<A: Allocator + Copy, E: Write>(
     tell_first(alloc, text, compiled, threads, stuck, teller.err);
 }
 
-/// Tells the trace of the first order after which a property fails.
+/// Reports the trace of the first order after which a property fails.
 fn tell_first_failure<A: Allocator + Copy, E: Write>(
     alloc: A,
     text: &str,

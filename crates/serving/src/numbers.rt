@@ -134,8 +134,8 @@ impl<'a, F: Files> Files for Numbered<'a, F> {
     }
 }
 
-/// The bytes that are read of a source: all of them, or one more than a source may have. The error is the exit status;
-/// standard error then says why.
+/// The bytes read from a source: all of them, or one more than the size limit. The error is the exit status, and the
+/// reason is reported on standard error.
 fn source_read<F: Files, E: Write>(
     alloc: Global,
     files: &F,
@@ -154,7 +154,7 @@ fn source_read<F: Files, E: Write>(
     }
 }
 
-/// The bytes of a source, with numbers in place of names. Bytes that are no text stay unchanged.
+/// The bytes of a source, with numbers in place of names. Bytes that are not text stay unchanged.
 fn with_numbers(
     alloc: Global,
     definitions: &[Definition],
@@ -233,7 +233,7 @@ fn sourceless<E: Write>(err: &mut E) -> u8
 }
 
 /// The bytes of two sources, with numbers in place of names, if each name is in one of them. The error is the exit
-/// status; standard error then says why.
+/// status, and the reason is reported on standard error.
 fn both_numbered<E: Write>(
     alloc: Global,
     definitions: &[Definition],

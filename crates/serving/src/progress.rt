@@ -1,5 +1,5 @@
-//! How far a walk over the states of threads is, in one line of standard error, and whether there are memory and time for
-//! more.
+//! The progress of a search over the states of threads, in one line of standard error, and whether memory and time
+//! remain.
 
 ghost use Rattle.std.specs.Prelude.{◌≢◌, IfSome};
 ghost use Rattle.report.specs.declared.outcome_list.WalkEnd.TheVariants.{Whole};
@@ -20,12 +20,12 @@ pub(crate) struct ProgressLine<'e, E: Write> {
     err: &'e mut E,
     /// Whether it is to be shown.
     is_wanted: bool,
-    /// Whether it is told why a search stopped.
+    /// Whether the reason is reported if a search stops.
     explains: bool,
     /// Whether a line is shown.
     is_shown: bool,
     states: usize,
-    /// In how many states each thread's turn was made.
+    /// In how many states each thread has made its turn.
     expanded: usize,
     /// How many states or outcomes there are before it is written anew.
     due: usize,
@@ -38,9 +38,9 @@ pub(crate) struct ProgressLine<'e, E: Write> {
     listed_bytes: u64,
     /// Whether more memory was wanted.
     is_full: bool,
-    /// Whether the search, or the list, took longer than it may.
+    /// Whether the search, or the list, exceeded its time.
     is_late: bool,
-    /// Whether what is made now has no more time.
+    /// Whether the time of the current phase is used up.
     is_over: bool,
 }
 
@@ -65,8 +65,8 @@ impl<'e, E: Write> ProgressLine<'e, E> {
         }
     }
 
-    /// The walk is over: so many states are found, and no outcome is listed. The states grow no more, so they take no
-    /// more than their half. The list has time of its own.
+    /// Ends the walk with this many states, before any outcome is listed. The states grow no more, and take at most
+    /// half of the memory. The list has a time limit of its own.
     pub(crate) fn walked(&mut self, states: usize) {
         self.is_over = false;
         self.states = states;
@@ -74,12 +74,12 @@ impl<'e, E: Write> ProgressLine<'e, E> {
         self.due = STRIDE;
     }
 
-    /// Whether it is told why a search stopped.
+    /// Whether the reason is reported if a search stops.
     pub(crate) fn explains(&self) -> bool {
         self.explains
     }
 
-    /// What ran out, if something did: memory or time.
+    /// The resource that ran out, if any: memory or time.
     pub(crate) fn shortage(&self) -> Option<WalkEnd>
         ensures { IfSome result (λ e. e ≢ Whole) }
     {
@@ -92,12 +92,12 @@ impl<'e, E: Write> ProgressLine<'e, E> {
         }
     }
 
-    /// Whether there are memory and time for what is listed.
+    /// Whether memory and time remain for the list.
     pub(crate) fn has_room(&self) -> bool {
         !self.is_over && self.held.saturating_add(self.listed_bytes) <= self.most
     }
 
-    /// Notes whether the time is used up: the flush of a writer with a time limit then fails.
+    /// Notes whether the time is used up. If it is, the flush of a writer with a time limit fails.
     fn watch_time(&mut self) {
         if let Err(error) = self.err.flush() {
             if let ErrorKind::TimedOut = error.kind() {

@@ -1,5 +1,5 @@
-//! The results of a search for machines, on standard error: objects of JSON, one a line, or annotations of GitHub
-//! Actions. No contract speaks of them.
+//! Machine-readable results of a search, on standard error: JSON objects, one per line, or GitHub Actions annotations.
+//! No contract covers them.
 
 use crate::listed_ends::push_numbers;
 use crate::properties::PropertiesFound;
@@ -15,7 +15,7 @@ use std::str;
 use syntax::number::number;
 use syntax::tree::{Item, Unit};
 
-/// Tells a list of outcomes and stuck orders.
+/// Reports a list of outcomes and stuck orders.
 pub(crate) fn tell_list<A: Allocator, E: Write>(
     found: &OutcomesFound<A>,
     threads: u32,
@@ -43,7 +43,7 @@ pub(crate) fn tell_list<A: Allocator, E: Write>(
     }
 }
 
-/// Tells the answers about properties of a program, and stuck orders.
+/// Reports the answers about properties of a program, and stuck orders.
 pub(crate) fn tell_answers<A: Allocator, E: Write>(
     text: &str,
     unit: &Unit<A>,
@@ -76,7 +76,7 @@ pub(crate) fn tell_answers<A: Allocator, E: Write>(
     }
 }
 
-/// Ends an object with what stopped the search.
+/// Ends an object with the limit that stopped the search.
 fn put_stop<E: Write>(end: WalkEnd, is_answered: bool, err: &mut E) {
     let words = match end {
         WalkEnd::Whole => b"null}\n".as_slice(),
@@ -89,7 +89,7 @@ fn put_stop<E: Write>(end: WalkEnd, is_answered: bool, err: &mut E) {
     let _ = err.write_all(words);
 }
 
-/// Puts an object for each order.
+/// Writes an object for each order.
 fn put_orders<A: Allocator, E: Write>(kind: &str, orders: &[ReportedOrder<A>], err: &mut E) {
     'orders: for one in orders {
         let _ = write!(err, "{{\"result\":\"{kind}\"");
@@ -98,7 +98,7 @@ fn put_orders<A: Allocator, E: Write>(kind: &str, orders: &[ReportedOrder<A>], e
     }
 }
 
-/// Puts an order, its threads and its globals, as members of an object.
+/// Writes an order, its threads and its globals as members of an object.
 fn put_report<A: Allocator, E: Write>(one: &ReportedOrder<A>, err: &mut E) {
     let _ = err.write_all(b",\"order\":[");
     push_numbers(one.order.as_slice(), err);
@@ -133,7 +133,7 @@ fn put_report<A: Allocator, E: Write>(one: &ReportedOrder<A>, err: &mut E) {
     let _ = err.write_all(b"}");
 }
 
-/// Puts a thread as an object: how it ended, and its output.
+/// Writes a thread as an object: how it ended, and its output.
 fn put_thread<A: Allocator, E: Write>(thread: &ThreadShown<A>, err: &mut E) {
     let _ = err.write_all(b"{\"end\":\"");
     let _ = match thread.end {
@@ -158,7 +158,7 @@ fn put_thread<A: Allocator, E: Write>(thread: &ThreadShown<A>, err: &mut E) {
     let _ = err.write_all(b"}");
 }
 
-/// Puts a property as an object, with its answer.
+/// Writes a property and its answer as an object.
 fn put_property<A: Allocator, E: Write>(one: &Property<A>, err: &mut E) {
     let _ = err.write_all(b"{\"result\":\"property\",\"name\":");
     let _ = write_quoted(one.name.as_str(), err);
@@ -221,7 +221,7 @@ fn annotate_stuck<A: Allocator, E: Write>(stuck: &[ReportedOrder<A>], teller: &m
     }
 }
 
-/// Puts an order behind the words of an annotation.
+/// Writes an order after the words of an annotation.
 fn put_order<E: Write>(order: &[u32], err: &mut E) {
     let _ = err.write_all(b" with --order ");
     if order.is_empty() {
@@ -243,7 +243,7 @@ pub(crate) fn begin_annotation<E: Write>(kind: &str, teller: &mut Teller<'_, E>)
     }
 }
 
-/// Where the name of a function begins that is defined.
+/// Where the name of a defined function begins.
 fn start_of<A: Allocator>(unit: &Unit<A>, name: &str) -> Option<usize> {
     'items: for item in unit.items.as_slice() {
         if let Item::Function(function) = item {

@@ -35,7 +35,7 @@ pub struct Detail<'a> {
     pub(crate) format: Format,
     /// Whether `txc check` tells more than was asked for.
     pub(crate) further: bool,
-    /// Whether the traces of what a search finds first are shown.
+    /// Whether traces of what a search finds first are shown.
     pub(crate) traces: bool,
 }
 
@@ -66,7 +66,7 @@ impl<'a> Detail<'a> {
         }
     }
 
-    /// The same, with the traces of what a search finds first if they are wanted.
+    /// The same detail, with traces of what a search finds first if they are wanted.
     fn with_traces(self, are_wanted: bool) -> Detail<'a> {
         let mut detail = self.of_file(self.file);
         detail.traces = self.traces || are_wanted;
@@ -105,7 +105,7 @@ impl<'a, E: Write> Teller<'a, E> {
 }
 
 impl<E: Write> Teller<'_, E> {
-    /// Tells it there, with the traces of what a search finds first if they are wanted.
+    /// A teller with the same writer, and with traces of what a search finds first if they are wanted.
     pub(crate) fn with_traces(&mut self, are_wanted: bool) -> Teller<'_, E> {
         Teller {
             err: &mut *self.err,
@@ -204,7 +204,7 @@ impl<E: Write> Teller<'_, E> {
         UNUSABLE
     }
 
-    /// Says what hinders the use of a file, in a format for editors.
+    /// Reports why a file cannot be used, in a format for editors.
     fn tell_of_file(&mut self, file: &str, what: &str) {
         if self.detail.format == Format::Json {
             let _ = self.err.write_all(b"{\"file\":");
@@ -216,7 +216,7 @@ impl<E: Write> Teller<'_, E> {
         }
     }
 
-    /// Says that a file's text is not UTF-8.
+    /// Reports that a file's text is not UTF-8.
     pub(crate) fn not_text(&mut self, file: &str) -> u8
         ensures { result ≡ 2 }
     {

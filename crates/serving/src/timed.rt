@@ -1,33 +1,33 @@
-//! A writer that adds the seconds that have passed to a progress line, and reports when a time limit is reached.
+//! A writer that appends the elapsed seconds to a progress line, and reports when a time limit is reached.
 
 use std::io;
 use std::io::{ErrorKind, Write};
 use std::time::{Clock, Instant};
 
-/// A writer that appends the whole seconds since it was made to each open line that is flushed, as in `, 12 s, 5000/s`,
-/// for a progress line. The rate is that of the first number in the line, since it was last smaller than before. A line
-/// is open until its end or a carriage return is written. Nothing is appended within the first second, nor if the clock
-/// can't be read.
+/// A writer for a progress line. When an open line is flushed, the writer appends the whole seconds since it was made,
+/// and a rate, as in `, 12 s, 5000/s`. A line is open until its end or a carriage return is written. The rate is that
+/// of the first number in the line, counted since this number last became smaller. Nothing is appended within the first
+/// second, or if the clock can't be read.
 ///
-/// If the time has a limit, a flush fails with `TimedOut` once these seconds have passed, and again each time that as
+/// If there is a time limit, a flush fails with `TimedOut` once these seconds have passed. It fails again each time as
 /// many more have passed. No other flush fails.
 #[derive(Drop)]
 pub struct Timed<'a, W: Write, C: Clock> {
     writer: &'a mut W,
     clock: &'a C,
     since: Option<Instant>,
-    /// How many seconds may pass, if that has a limit.
+    /// The time limit in seconds, if there is one.
     limit: Option<u32>,
-    /// In which second a flush fails next, if the time has a limit.
+    /// The second in which a flush fails next, if there is a time limit.
     due: u64,
-    /// Whether a line is open that has no seconds yet.
+    /// Whether a line is open to which no seconds are appended yet.
     is_open: bool,
     /// The first number in the line, and whether it is complete.
     number: Option<u64>,
     is_read: bool,
-    /// The first number in the line before.
+    /// The first number in the previous line.
     before: u64,
-    /// From which second the rate counts.
+    /// The second from which the rate counts.
     second: u64,
 }
 

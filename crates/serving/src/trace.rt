@@ -65,8 +65,8 @@ pub(crate) fn trace<A: Allocator + Copy, W: Write, E: Write>(
     }
 }
 
-/// Replays an order of a source's threads: the program, the schedule of the order, and what the replay leaves. The
-/// error is the exit status; standard error then says why.
+/// Replays an order of a source's threads. Returns the program, the schedule of the order, and the result of the
+/// replay. The error is the exit status, and the reason is reported on standard error.
 fn traced<A: Allocator + Copy, E: Write>(
     alloc: A,
     text: &str,
@@ -90,7 +90,7 @@ fn traced<A: Allocator + Copy, E: Write>(
     }
 }
 
-/// The schedule of an order, unless a function is given that is no property.
+/// The schedule of an order, unless the given function is not a property.
 fn lines_asked<A: Allocator + Copy, E: Write>(
     alloc: A,
     compiled: &Compiled<A>,
@@ -108,7 +108,7 @@ fn lines_asked<A: Allocator + Copy, E: Write>(
     }
 }
 
-/// The exit status if a function is given that is no property; standard error then says why.
+/// The exit status if the given function is not a property. The reason is then reported on standard error.
 fn refuse_property<A: Allocator + Copy, E: Write>(
     alloc: A,
     compiled: &Compiled<A>,
@@ -161,7 +161,7 @@ fn print_trace<A: Allocator + Copy, W: Write, E: Write>(
     }
 }
 
-/// The form in which a trace is wanted.
+/// The form of the trace that is wanted.
 fn form_of(format: Format, in_full: bool) -> Form {
     match format {
         Format::Json => Form::Json,
@@ -242,7 +242,7 @@ fn stands_of<A: Allocator + Copy>(
     Ok(stands)
 }
 
-/// What a function says of a memory, in words.
+/// The words for the value of a function in a memory.
 fn words_of_reply<A: Allocator + Copy>(
     alloc: A,
     compiled: &Compiled<A>,
@@ -257,8 +257,7 @@ fn words_of_reply<A: Allocator + Copy>(
     })
 }
 
-/// Tells an order, and how it comes about: its trace. Nothing is told if memory is refused, or if the turns make too many
-/// steps.
+/// Reports an order and its trace. Reports nothing after an allocation failure, or if the turns make too many steps.
 pub(crate) fn tell_trace<A: Allocator + Copy, E: Write>(
     alloc: A,
     text: &str,

@@ -1,4 +1,4 @@
-//! What `txc explore` prints. Of a page only its exit status is proved.
+//! Tests of the output of `txc explore`. Contracts cover only the exit status of a page.
 
 use std::alloc::Global;
 use test_serving::{ADDS, Row, serve_line, wrong_row};
@@ -67,7 +67,7 @@ fn refuses_pages(rt: HostRuntime) {
     assert_eq!(rt; wrong_row(&rt, rt.alloc(), refused()), None);
 }
 
-/// The data of the page that a command line writes of a source, if the page has three scripts and is whole.
+/// The data of a page, if the page is whole and has three scripts.
 fn data_of(alloc: Global, page: &str) -> Option<String> {
     if !page.starts_with("<!doctype html>\n") || !page.ends_with("</script>\n</html>\n") {
         return None;
@@ -90,19 +90,19 @@ fn pages() -> &'static [PageRow] {
             ADDS,
             r#"{"file":"a.c","threads":1,"order":[],"source":["int x; void worker(int self) { __transaction_atomic { x = x + 1; } }"],"cells":["x"],"rests":[{"line":1,"column":32,"words":"x = x + 1","end":"","printed":""},{"line":0,"column":0,"words":"","end":"ended","printed":""}],"touched":[[[0],[0]],[[],[]]],"states":[[[0],[0],[1],[0]],[[1],[1],[1],[1]]],"properties":[]}"#,
         ),
-        // what a source has of HTML, quotes, and beyond ASCII is text
+        // HTML, quotes and non-ASCII characters of a source are text
         (
             "txc explore a.c --threads 1 --order 0",
             b"// </script><!-- \"\\' \xc3\xa9 &amp;\nvoid worker(int self) { __transaction_relaxed { printf(\"<b>\\n\"); } }\n",
             r#"{"file":"a.c","threads":1,"order":[0],"source":["// \u003c/script>\u003c!-- \"\\' é &amp;","void worker(int self) { __transaction_relaxed { printf(\"\u003cb>\\n\"); } }"],"cells":[],"rests":[{"line":2,"column":25,"words":"printf(\"\u003cb>\\n\")","end":"","printed":""},{"line":0,"column":0,"words":"","end":"ended","printed":"\u003cb>\n"}],"touched":[[[],[]]],"states":[[[],[0],[1],[0]],[[],[1],[1],[0]]],"properties":[]}"#,
         ),
-        // a trap undoes what its transaction wrote; a long number is a text
+        // a trap undoes the writes of its transaction; a long number is a text
         (
             "txc explore a.c --threads 1 --always small",
             b"long long a[2] = {9007199254740993, -1}; int small(void) { return a[1] < 0; }\nvoid worker(int self) { __transaction_atomic { a[1] = 5; a[0] = a[0] / self; } }",
             r#"{"file":"a.c","threads":1,"order":[],"source":["long long a[2] = {9007199254740993, -1}; int small(void) { return a[1] < 0; }","void worker(int self) { __transaction_atomic { a[1] = 5; a[0] = a[0] / self; } }"],"cells":["a[0]","a[1]"],"rests":[{"line":2,"column":25,"words":"a[1] = 5; a[0] = a[0] / self","end":"","printed":""},{"line":0,"column":0,"words":"","end":"trap 2","printed":""}],"touched":[[[0],[]],[[],[]]],"states":[[["9007199254740993",-1],[0],[1],[0]],[["9007199254740993",-1],[1],[1],[1]]],"properties":[{"name":"small","values":"11"}]}"#,
         ),
-        // an inner cancel undoes one write, and what is read after a write is not read from memory
+        // an inner cancel undoes one write, and a read after a write is not a read of memory
         (
             "txc explore a.c --threads 1",
             b"int x, y; void worker(int self) { __transaction_atomic { y = 1; __transaction_atomic { x = 9; __transaction_cancel; } y = x + y; } }",
@@ -112,7 +112,7 @@ fn pages() -> &'static [PageRow] {
     &ROWS
 }
 
-/// The first row of which the page has other data, with what it has.
+/// The first row whose page has other data, and that data.
 fn wrong_page<H: std::thread::Threads + std::sync::Wait + Sync>(
     rt: &H,
     alloc: Global,

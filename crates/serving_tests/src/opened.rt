@@ -245,7 +245,7 @@ fn rows() -> &'static [Row] {
             false,
             (0, b"as expected\n", b""),
         ),
-        // results for machines
+        // machine-readable results
         (
             "txc outcomes a.c --threads 1 --format json",
             Ok(ADDS),
@@ -294,7 +294,7 @@ fn rows() -> &'static [Row] {
                 b"::error file=a.c,line=1,col=7,title=fault 28::no worker\n",
             ),
         ),
-        // line ends may be all that differs
+        // only line ends differ
         (
             "txc outcomes a.c --threads 1 --expect s.txt",
             Ok(ADDS),
@@ -321,7 +321,7 @@ fn rows() -> &'static [Row] {
                 b"txc: they differ only in the last line end\n",
             ),
         ),
-        // a search may have no time: it ends after the turns of its first state, and so does a range
+        // if a search has no time, it ends after the turns of its first state, and so does a range
         (
             "txc outcomes a.c --threads 2..3 --time 0",
             Ok(ADDS),
@@ -353,7 +353,7 @@ fn rows() -> &'static [Row] {
             false,
             (4, b"", b"txc: a.c: stopped at the time\n"),
         ),
-        // numbers replace name tokens alone
+        // numbers replace only name tokens
         (
             "txc source a.c --order 0 -D N=-3 -D W=7",
             Ok(
@@ -370,7 +370,7 @@ fn rows() -> &'static [Row] {
             false,
             (2, b"", b"txc: -D y: no such name in a.c\n"),
         ),
-        // for every number of threads too
+        // likewise for every number of threads
         (
             "txc outcomes a.c --threads any --always kept -D N=3",
             Ok(

@@ -1,4 +1,4 @@
-//! Questions in files, and what is answered to them.
+//! Tests of questions in files, and of the answers to them.
 
 use crate::opened::{Found, NONE, Told, TwoFiles};
 use std::alloc::Global;
@@ -8,7 +8,7 @@ use std::thread::Threads;
 use std::time::Clock;
 use system::serve_words;
 
-/// A command line, what is found of its two files, the exit status, how the output begins and ends, and what is told on
+/// A command line, the contents of its two files, the exit status, how the output begins and ends, and the text on
 /// standard error. The time stands between the beginning and the end.
 type Row = (
     &'static str,
@@ -21,21 +21,21 @@ type Row = (
 const BROKEN: &[u8] =
     b"int n; int one(void) { return n <= 1; }\nvoid worker(int self) { __transaction_atomic { n++; } }\n  // txc: --always one --threads 2 (fails)\n";
 
-/// The same, with a question of one thread, which passes, one that fails, and one that is undecided.
+/// The same, with three questions: one about one thread, which passes, one that fails, and one that is undecided.
 const THREE: &[u8] =
     b"int n; int one(void) { return n <= 1; }\nvoid worker(int self) { __transaction_atomic { n++; } }\n// txc: --always one --threads 1\n\t//\ttxc:  --always one\r\n// txc: --limit 1\n";
 
 /// A program that is refused.
 const REFUSED: &[u8] = b"void worker(int self) { x; }\n// txc:\n";
 
-/// A thread traps, and a question expects it.
+/// A thread traps, as a question expects.
 const TRAPS: &[u8] = b"void worker(int self) { int a = 1 / self; }\n// txc: (traps)\n";
 
-/// Threads wait for ever.
+/// Threads wait forever.
 const STUCK: &[u8] =
     b"int x; void worker(int self) { while (__transaction_atomic(!x)) ; }\n// txc: (stuck)\n// txc:\n";
 
-/// A question that is none.
+/// An invalid question.
 const BAD: &[u8] = b"void worker(int self) { }\n  // txc: --threads 65\n";
 
 fn rows() -> &'static [Row] {
@@ -147,7 +147,7 @@ fn rows() -> &'static [Row] {
             NONE,
             (2, "", "", "txc: usage: --format is github or json\n"),
         ),
-        // the source is that which was read, and another file is opened
+        // the source is the one already read, and another file is opened
         (
             "txc test a.c",
             Ok(
@@ -178,7 +178,7 @@ fn rows() -> &'static [Row] {
     &ROWS
 }
 
-/// Whether an output begins and ends so; without a beginning and an end it is empty.
+/// Whether an output begins and ends like this. It is empty if both of these are.
 fn is_output(out: &[u8], first: &str, last: &str) -> bool {
     if first.is_empty() && last.is_empty() {
         return out.is_empty();
@@ -189,7 +189,7 @@ fn is_output(out: &[u8], first: &str, last: &str) -> bool {
     }
 }
 
-/// Whether a row is answered as it says.
+/// Whether a row is answered as it expects.
 fn is_so<H: Threads + Wait + Clock + Sync>(rt: &H, alloc: Global, row: &Row) -> bool {
     let (line, source, schedule, (status, first, last, told)) = row;
     let Ok(words) = line.split(' ').collect::<Vec<&str>>(alloc) else {
@@ -210,7 +210,7 @@ fn is_so<H: Threads + Wait + Clock + Sync>(rt: &H, alloc: Global, row: &Row) -> 
         && err.bytes.as_slice() == told.as_bytes()
 }
 
-/// The number of the first row, from 0, that is answered otherwise.
+/// The number of the first row with another answer, counted from 0.
 fn wrong_row<H: Threads + Wait + Clock + Sync>(rt: &H, alloc: Global) -> Option<usize> {
     for (number, row) in rows().iter().enumerate() {
         if !is_so(rt, alloc, row) {

@@ -91,7 +91,7 @@ fn no_seconds_are_told_without_a_clock(rt: HostRuntime) {
     assert!(rt; is_told(rt.alloc(), &Broken, b"\rtxc: 1000 states, 18 to expand"));
 }
 
-/// How many states are found, how many outcomes are listed, and what stops, if the search may take so many seconds.
+/// How many states a search of this many seconds finds, how many outcomes are listed, and how it ends.
 fn found_within<C: Clock>(alloc: Global, clock: &C, seconds: u32) -> Option<(u64, usize, WalkEnd)> {
     let mut told = Vec::new(alloc);
     let mut timed = Timed::new(&mut told, clock, Some(seconds));
@@ -120,7 +120,7 @@ fn a_search_has_a_time_limit(rt: HostRuntime) {
     assert!(rt; found == Some((1681, 1, WalkEnd::Whole)));
 }
 
-/// Without a clock no time passes.
+/// Without a clock, no time passes.
 #[test]
 fn a_search_ends_without_a_clock(rt: HostRuntime) {
     let found = found_within(rt.alloc(), &Broken, 1);

@@ -14,7 +14,7 @@ const LOCKS: &[u8] =
 const TRAPS: &[u8] =
     b"int x = 3, y;\nvoid worker(int self) { __transaction_atomic { y = 1; x = x / self; } }\n";
 
-/// A text before the first transaction, and a transaction that is cancelled.
+/// Output before the first transaction, and a transaction that is cancelled.
 const CANCELS: &[u8] =
     b"int x;\nvoid worker(int self) {\n  printf(\"hi\\n\");\n  __transaction_atomic { x = 1; __transaction_cancel; }\n}\n";
 
@@ -22,7 +22,7 @@ const CANCELS: &[u8] =
 const WAITS: &[u8] =
     b"int stop;\nvoid worker(int self) {\n  while (!__transaction_atomic(stop)) ;\n}\n";
 
-/// A function that calls another one, an array of which an element is read, and one that is read as a whole.
+/// A function and one that it calls: they read an element of one array, and another array as a whole.
 const ASKS: &[u8] =
     b"int a[3] = {4, 5, 6}, b[2], x = 7, y;\nint other(int i) { return b[i] + x; }\nint sums(void) { return a[1] + other(0); }\nvoid worker(int self) { __transaction_atomic { y = 1; } }\n";
 
@@ -157,7 +157,7 @@ fn traces() -> &'static [Row] {
                 b"",
             ),
         ),
-        // a text before the first transaction, and a transaction that is cancelled
+        // output before the first transaction, and a transaction that is cancelled
         (
             "txc trace a.c --threads 1 --order 0",
             CANCELS,
@@ -190,7 +190,7 @@ fn traces() -> &'static [Row] {
                 b"",
             ),
         ),
-        // the values that a property reads, by its text and by the functions that it calls
+        // the values that a property reads, in its own text and in the functions that it calls
         (
             "txc trace a.c --threads 1 --order 0 --property sums",
             ASKS,
@@ -233,7 +233,7 @@ fn traces() -> &'static [Row] {
                 b"",
             ),
         ),
-        // a search shows how a property fails, on standard error
+        // a search reports on standard error how a property fails
         (
             "txc outcomes a.c --final both --trace",
             LOSES,

@@ -76,7 +76,7 @@ ServesQuestions questions bytes status old new =
     ServesFile 5 (λ text s o n. AnswersQuestions questions text s o n) (λ text. HasNoCode text)
     (λ text o n. WritesPart (IsToldOf questions text) o n) bytes status old new
 
--- queries of them for every number of threads
+-- likewise for every number of threads
 abbrev pub ServesCoverage : Coverage → (bytes : Option (List ℕ)) → (status : ℕ) → (old new : Option (List ℕ)) → Type 0
 ServesCoverage coverage bytes status old new =
     ServesFile 5 (λ text s o n. AnswersCoverage coverage text s o n) (λ text. HasNoCode text)
@@ -151,7 +151,7 @@ PrintsPropertiesInTurn AreFound more threads status old new =
     PrintsInTurn 5 (λ k s o n. TellsProperties k (AreFound k) s o n)
     (λ k written. IsTextOfProperties k (AreFound k) written) more threads status old new
 
--- likewise, findings for every number of threads
+-- likewise, the findings for every number of threads
 abbrev pub PrintsCoverings : (AreFound : List CoveredProperty → Type 0) → (status : ℕ) → (old new : Option (List ℕ)) →
     Type 0
 PrintsCoverings AreFound status old new =
