@@ -99,12 +99,7 @@ fn rows() -> &'static [Row] {
             "txc test a.c s.txt",
             Ok(BROKEN),
             Ok(BAD),
-            (
-                2,
-                "",
-                "",
-                "txc: s.txt:2:3: --threads is 1 to 64\n",
-            ),
+            (2, "", "", "txc: s.txt:2:3: --threads is 1 to 64\n"),
         ),
         (
             "txc test a.c",
