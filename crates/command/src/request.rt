@@ -258,9 +258,9 @@ pub enum Task {
         order: Vec<u32>,
         always: Option<String>,
     },
-    /// Lists the outcomes of 1 to 64 threads in all orders, over at most so many states. In a turn a thread makes at
-    /// most so many steps of its code, and the states and the list take about so many MB of memory. If `time` is given,
-    /// the search takes about so many seconds at most.
+    /// Lists the outcomes of 1 to 64 threads in all orders, over at most `limit` states. A thread makes at most `steps`
+    /// steps of its code in a turn. The states and the list take about `memory` MB. If `time` is given, the search
+    /// takes at most about that many seconds.
     Outcomes {
         threads: ThreadRange,
         steps: u32,

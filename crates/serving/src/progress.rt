@@ -65,8 +65,8 @@ impl<'e, E: Write> ProgressLine<'e, E> {
         }
     }
 
-    /// Ends the walk with this many states, before any outcome is listed. The states grow no more, and take at most
-    /// half of the memory. The list has a time limit of its own.
+    /// Ends the walk with this many states, before any outcome is listed. The number of states grows no further, so
+    /// they take at most half of the memory. The list has a time limit of its own.
     pub(crate) fn walked(&mut self, states: usize) {
         self.is_over = false;
         self.states = states;

@@ -20,7 +20,7 @@ abbrev pub IsReadAsSource : Option Request → (name : List ℕ) → Type 0
 IsReadAsSource (Some request) name = IsSource request name
 IsReadAsSource None name = Unit {0}
 
--- a file was read to its end; or it is a source, and was read to one byte past its size limit
+-- a file was read to its end; or it is a source, and was read up to one byte past its size limit
 abbrev pub IsReadFrom : Option Request → Contents → KeptFile → Type 0
 IsReadFrom request contents file = IfSome (contents (string_bytes file.name))
     (λ bytes. (file.bytes.items ≡ bytes)
