@@ -9,7 +9,7 @@ fn ranges() -> &'static [Row] {
     static ROWS: [Row; 7] = [
         (
             "txc|outcomes|a.c|--threads|2..4",
-            br#"Ok(Program { file: "a.c", verbose: false, format: Plain, task: Outcomes { threads: ThreadRange { first: 2, last: 4 }, steps: 1000000, limit: 1000000, memory: 102, time: None4, time: None } })"#,
+            br#"Ok(Program { file: "a.c", verbose: false, format: Plain, task: Outcomes { threads: ThreadRange { first: 2, last: 4 }, steps: 1000000, limit: 1000000, memory: 1024, time: None, traces: false } })"#,
         ),
         (
             "txc|outcomes|a.c|--threads=1..64|--always=p",
