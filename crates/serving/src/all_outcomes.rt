@@ -1,4 +1,4 @@
-//! `txc outcomes`: what can come out of a source, and where its threads are stuck.
+//! `txc outcomes`: the possible outcomes of a source, and the orders in which its threads are stuck.
 
 ghost use Rattle.std.specs.Prelude.{◌≡◌, ◌≢◌, ◌≤◌, ◌-◌, [], map, IfOk, IfErr};
 ghost use Rattle.std.specs.List.{list_any};
@@ -30,8 +30,8 @@ use report::{ReportedOrder, WalkEnd, list_text};
 use std::alloc::Allocator;
 use std::io::Write;
 
-/// Lists the outcomes of a source's threads over all orders, and the orders that are stuck, for one number of threads
-/// after another, up to the first whose status is not 0.
+/// Lists the outcomes of a source's threads over all orders, and the stuck orders, for one number of threads after
+/// another, up to the first whose status is not 0.
 pub(crate) fn all_outcomes<A: Allocator + Copy, W: Write, E: Write>(
     alloc: A,
     text: &str,
@@ -86,7 +86,7 @@ fn list_in_turn<A: Allocator + Copy, W: Write, E: Write>(
     )
 }
 
-/// Lists the outcomes of so many threads of a program.
+/// Lists the outcomes of this many threads of a program.
 fn list_of_threads<A: Allocator + Copy, W: Write, E: Write>(
     alloc: A,
     text: &str,
@@ -115,7 +115,7 @@ fn list_of_threads<A: Allocator + Copy, W: Write, E: Write>(
     }
 }
 
-/// Prints a list of outcomes, and gives the exit status.
+/// Prints a list of outcomes, and returns the exit status.
 fn print_outcomes<A: Allocator + Copy, W: Write, E: Write>(
     alloc: A,
     found: &OutcomesFound<A>,
@@ -144,11 +144,11 @@ fn print_outcomes<A: Allocator + Copy, W: Write, E: Write>(
     }
 }
 
-/// The outcomes of threads of a source's text, each with an order that leads to it and what the report of that order
-/// shows, and orders that are stuck, each with its report. At most `limit` states of threads are looked at, and in one
-/// turn a thread makes at most so many steps of its code, and states and list take about so many bytes of memory; `end`
-/// says whether more of one of these was wanted, and then these may not be all. The teller shows how many there are so
-/// far, in one line, where it is to show how far a walk is. The threads are looked at last.
+/// The outcomes of threads of a source's text, each with an order that leads to it and that order's report, and the
+/// stuck orders, each with its report. The search finds at most `limit` states. In one turn a thread makes at most this
+/// many steps of its code. States and list take about this many bytes of memory. If `end` says that a limit was
+/// reached, these may not be all outcomes. If progress is wanted, the teller shows the number found so far, in one
+/// line. The number of threads is checked last.
 pub fn list_outcomes<A: Allocator + Copy, E: Write>(
     alloc: A,
     text: &str,
@@ -172,29 +172,29 @@ pub fn list_outcomes<A: Allocator + Copy, E: Write>(
     }
 }
 
-/// Whether in an outcome a thread has trapped.
+/// Whether a thread has trapped in an outcome.
 fn traps<A: Allocator>(outcome: &ReportedOrder<A>) -> bool
     ensures { result ≡ has_trapped (reported_of outcome.now).shown }
 {
     has_trapped(outcome.shown.threads.as_slice())
 }
 
-/// Whether in one of these a thread has trapped: a call of its own, since the prover sees `any` by the elements as
-/// they are.
+/// Whether a thread has trapped in one of these. This is a function of its own, since the prover evaluates `any` over
+/// the elements themselves.
 fn one_traps<A: Allocator>(outcomes: &[ReportedOrder<A>]) -> bool
     ensures { result ≡ list_any (λ o. has_trapped (reported_of o).shown) outcomes.now }
 {
     outcomes.iter().any(|outcome| traps(outcome))
 }
 
-/// Whether in some outcome a thread has trapped.
+/// Whether a thread has trapped in some outcome.
 fn some_trapped<A: Allocator>(outcomes: &[ReportedOrder<A>]) -> bool
     ensures { result ≡ list_any (λ o. has_trapped o.shown) (map reported_of outcomes.now) }
 {
     one_traps(outcomes)
 }
 
-/// The exit status where outcomes were listed: 4 where there may be more of them, or some order is stuck.
+/// The exit status after outcomes were listed: 4 if there may be more of them, or if some order is stuck.
 fn status_of_outcomes<A: Allocator>(found: &OutcomesFound<A>) -> u8
     ensures within { result ≤ 4 }
     ensures not_refused { result ≢ 1 }

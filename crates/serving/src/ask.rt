@@ -1,5 +1,5 @@
-//! `txc outcomes` with `--always` or `--final`: whether functions of a source hold in every state that its threads come
-//! to, in whatever order, or in every outcome.
+//! `txc outcomes` with `--always` or `--final`: whether functions of a source hold in every state that its threads can
+//! reach in any order, or in every outcome.
 
 ghost use Rattle.std.specs.Prelude.{◌≡◌, ◌≢◌, ◌≤◌, ◌⊎◌, ◌++◌, ◌-◌, ◌==◌, [], All, IfNone, IfOk, IfSome, map, not};
 ghost use Rattle.std.specs.List.{list_any, slice_split};
@@ -31,7 +31,7 @@ use report::{Finding, Property, WalkEnd, properties_text};
 use std::alloc::{AllocError, Allocator};
 use std::io::{Read, Write};
 
-/// Opens the source, and says whether functions of it hold.
+/// Opens the source, and reports whether functions of it hold.
 pub(crate) fn open_asked<A: Allocator + Copy, F: Files, W: Write, E: Write>(
     alloc: A,
     file: &str,
@@ -49,8 +49,8 @@ pub(crate) fn open_asked<A: Allocator + Copy, F: Files, W: Write, E: Write>(
     }
 }
 
-/// Says whether functions of a source hold. The status is 0 where all do and no order is stuck, 5 where some function
-/// fails, and else as `serve` says.
+/// Reports whether functions of a source hold. The status is 0 if all do and no order is stuck, and 5 if some function
+/// fails. Otherwise it is as for `serve`.
 pub(crate) fn ask<A: Allocator + Copy, R: Read + Drop, W: Write, E: Write>(
     alloc: A,
     questions: &Questions,
@@ -67,7 +67,7 @@ pub(crate) fn ask<A: Allocator + Copy, R: Read + Drop, W: Write, E: Write>(
     }
 }
 
-/// Says whether functions of a source's text hold.
+/// Reports whether functions of a source's text hold.
 fn ask_text<A: Allocator + Copy, W: Write, E: Write>(
     alloc: A,
     questions: &Questions,
@@ -85,7 +85,7 @@ fn ask_text<A: Allocator + Copy, W: Write, E: Write>(
     }
 }
 
-/// The names that a text has, joined by commas.
+/// The comma-separated names in a text.
 pub(crate) fn pieces<'a, A: Allocator>(
     alloc: A,
     text: &'a str,
@@ -95,7 +95,7 @@ pub(crate) fn pieces<'a, A: Allocator>(
     text.split(',').collect(alloc)
 }
 
-/// The names that are given, if any are.
+/// The given names, if there are any.
 pub(crate) fn names_of<'a, A: Allocator>(
     alloc: A,
     given: &'a Option<String>,
@@ -108,7 +108,7 @@ pub(crate) fn names_of<'a, A: Allocator>(
     }
 }
 
-/// Says whether functions of a program hold.
+/// Reports whether functions of a program hold.
 fn ask_program<A: Allocator + Copy, W: Write, E: Write>(
     alloc: A,
     questions: &Questions,
@@ -143,7 +143,7 @@ fn ask_program<A: Allocator + Copy, W: Write, E: Write>(
     }
 }
 
-/// How far a search for answers goes.
+/// The limits of a search for answers.
 fn extent_of(questions: &Questions) -> Extent
     ensures { result.steps ≡ questions.now.steps }
 {
@@ -155,8 +155,8 @@ fn extent_of(questions: &Questions) -> Extent
     }
 }
 
-/// Says whether functions of these names hold in every state, and these in every outcome, for one number of threads
-/// after another, up to the first whose status is not 0.
+/// Reports whether functions of these names hold in every state, and functions of those in every outcome. It tries one
+/// number of threads after another, up to the first whose status is not 0.
 fn ask_in_turn<A: Allocator + Copy, W: Write, E: Write>(
     alloc: A,
     questions: &Questions,
@@ -191,7 +191,7 @@ fn ask_in_turn<A: Allocator + Copy, W: Write, E: Write>(
     )
 }
 
-/// Says whether functions of these names hold in every state of so many threads, and these in every outcome.
+/// Reports whether functions of these names hold in every state of this many threads, and of those in every outcome.
 fn ask_names<A: Allocator + Copy, W: Write, E: Write>(
     alloc: A,
     questions: &Questions,
@@ -239,7 +239,7 @@ fn ask_names<A: Allocator + Copy, W: Write, E: Write>(
     }
 }
 
-/// The exit status with which it is told of the first of these names whose function may not be asked, if there is one.
+/// Reports the first of these names whose function may not be a property, if any, and returns the exit status.
 pub(crate) fn refuse_names<A: Allocator + Copy, E: Write>(
     alloc: A,
     compiled: &Compiled<A>,
@@ -262,7 +262,7 @@ pub(crate) fn refuse_names<A: Allocator + Copy, E: Write>(
     }
 }
 
-/// Tells why a function may not be asked.
+/// Reports why a function may not be a property.
 fn tell_unaskable<E: Write>(option: &str, name: &str, why: Unaskable, err: &mut E) -> u8
     ensures { result ≡ 2 }
 {
@@ -272,7 +272,7 @@ fn tell_unaskable<E: Write>(option: &str, name: &str, why: Unaskable, err: &mut 
     UNUSABLE
 }
 
-/// Prints what was found of properties, and gives the exit status.
+/// Prints the findings about properties, and returns the exit status.
 fn print_found<A: Allocator + Copy, W: Write, E: Write>(
     alloc: A,
     found: &PropertiesFound<A>,
@@ -299,7 +299,7 @@ fn print_found<A: Allocator + Copy, W: Write, E: Write>(
     }
 }
 
-/// Whether it is not told of a property that it holds.
+/// Whether a property is not reported to hold.
 fn is_unheld<A: Allocator>(one: &Property<A>) -> bool
     ensures { result ≡ not (is_held (property_of one.now).finding) }
 {
@@ -311,7 +311,7 @@ fn is_unheld<A: Allocator>(one: &Property<A>) -> bool
     }
 }
 
-/// Whether it is told of a property that it fails.
+/// Whether a property is reported to fail.
 fn fails<A: Allocator>(one: &Property<A>) -> bool
     ensures { result ≡ is_failed (property_of one.now).finding }
 {
@@ -323,36 +323,36 @@ fn fails<A: Allocator>(one: &Property<A>) -> bool
     }
 }
 
-/// Whether it is not told of one of these that it holds: a call of its own, since the prover sees `any` by the elements as
-/// they are.
+/// Whether one of these is not reported to hold. This is a function of its own, since the prover evaluates `any` over
+/// the elements themselves.
 fn one_is_unheld<A: Allocator>(properties: &[Property<A>]) -> bool
     ensures { result ≡ list_any (λ r. not (is_held (property_of r).finding)) properties.now }
 {
     properties.iter().any(|one| is_unheld(one))
 }
 
-/// Whether it is told of one of these that it fails: a call of its own, as the one before.
+/// Whether one of these is reported to fail. This is a function of its own for the same reason.
 fn one_fails<A: Allocator>(properties: &[Property<A>]) -> bool
     ensures { result ≡ list_any (λ r. is_failed (property_of r).finding) properties.now }
 {
     properties.iter().any(|one| fails(one))
 }
 
-/// Whether it is not told of some property that it holds.
+/// Whether some property is not reported to hold.
 fn some_unheld<A: Allocator>(properties: &[Property<A>]) -> bool
     ensures { result ≡ has_unheld (map property_of properties.now) }
 {
     one_is_unheld(properties)
 }
 
-/// Whether it is told of some property that it fails.
+/// Whether some property is reported to fail.
 fn some_fails<A: Allocator>(properties: &[Property<A>]) -> bool
     ensures { result ≡ has_failed (map property_of properties.now) }
 {
     one_fails(properties)
 }
 
-/// The exit status where it was told of properties.
+/// The exit status for findings.
 fn status_of_found<A: Allocator>(found: &PropertiesFound<A>) -> u8
     ensures within { result ≤ 5 }
     ensures not_refused { result ≢ 1 }

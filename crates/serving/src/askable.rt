@@ -1,5 +1,5 @@
-//! Which functions may be asked: those that are defined as `int NAME(void)`, and neither print nor begin a relaxed
-//! transaction, nor call what does, so that a call of one is a single step of memory.
+//! Which functions may be properties: those that are defined as `int NAME(void)`, and neither print nor begin a relaxed
+//! transaction, nor call a function that does. A call of one is then a single step of memory.
 
 ghost use Rattle.std.specs.Prelude.{◌≡◌, ◌≢◌, ◌&&◌, All, IfNone, IfOk, IfSome, None, Some, is_some, map, option_map, true, false};
 ghost use Rattle.std.specs.Str.{bytes_eq};
@@ -17,7 +17,7 @@ use safety::{Construct, FunctionSet, Link, LinkRule, Site, least, links_by};
 use std::alloc::{AllocError, Allocator};
 use syntax::tree::{Attribute, Function, Item, Unit};
 
-/// Why a function may not be asked.
+/// Why a function may not be a property.
 #[derive(Clone, Copy)]
 pub(crate) enum Unaskable {
     Unknown,
@@ -26,7 +26,7 @@ pub(crate) enum Unaskable {
 }
 
 impl Unaskable {
-    /// What is told of it.
+    /// The words that report it.
     pub(crate) fn words(self) -> &'static str {
         match self {
             Unaskable::Unknown => "no function of the file",
@@ -90,7 +90,7 @@ fn is_int(ty: Scalar) -> bool
     }
 }
 
-/// Whether a function gives an `int`.
+/// Whether a function returns an `int`.
 fn gives_int(value: Option<Scalar>) -> bool
     ensures yes { result ≡ true → value ≡ Some Int }
     ensures no { result ≡ false → value ≢ Some Int }
@@ -101,7 +101,7 @@ fn gives_int(value: Option<Scalar>) -> bool
     }
 }
 
-/// Why a function of the file may not be asked, if so.
+/// Why a function of the file may not be a property, if so.
 fn why_not<'a, A: Allocator + Copy>(
     f: &'a Function<A>,
     irrevocable: &FunctionSet<'a, A>,
@@ -138,7 +138,7 @@ fn defined_in<'a, A: Allocator + Copy>(item: &'a Item<A>, name: &str) -> Option<
     }
 }
 
-/// Why the function of a name may not be asked, if so.
+/// Why the function of a name may not be a property, if so.
 fn why_not_named<'a, A: Allocator + Copy>(
     unit: &'a Unit<A>,
     irrevocable: &FunctionSet<'a, A>,
@@ -156,7 +156,7 @@ fn why_not_named<'a, A: Allocator + Copy>(
     Some(Unaskable::Unknown)
 }
 
-/// The first of these names whose function may not be asked, and why.
+/// The first of these names whose function may not be a property, and why.
 pub(crate) fn first_unaskable<'n, A: Allocator + Copy>(
     alloc: A,
     unit: &Unit<A>,

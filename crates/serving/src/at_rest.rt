@@ -1,4 +1,4 @@
-//! What is told of threads that rest between their transactions, as the states of a walk have them.
+//! The reports of threads that rest between their transactions, from the states of a search.
 
 ghost use Rattle.std.specs.Prelude.{◌≡◌, ◌<◌, IfOk, map};
 ghost use Rattle.bytecode.specs.Code.{Code};
@@ -18,7 +18,7 @@ use std::alloc::{AllocError, Allocator};
 use syntax::thread_end::Status;
 use walks::Walk;
 
-/// How a thread that rests is found: one that runs waits for its turn.
+/// The end of a thread that rests: a running one waits for its turn.
 fn end_at_rest(status: Status) -> ThreadEnd
     ensures { thread_end_in result ≡ end_of (wants_by status) status }
 {
@@ -29,7 +29,7 @@ fn end_at_rest(status: Status) -> ThreadEnd
     }
 }
 
-/// The output of a thread that rests, and how it stands.
+/// The output and the end of a thread that rests.
 pub(crate) fn thread_told<A: Allocator + Copy>(
     alloc: A,
     thread: &AtomicThread<A>,
@@ -45,7 +45,7 @@ pub(crate) fn thread_told<A: Allocator + Copy>(
     })
 }
 
-/// The output of the threads of a state, and how they stand.
+/// The outputs and the ends of the threads of a state.
 pub(crate) fn state_told<A: Allocator + Copy>(
     alloc: A,
     walk: &Walk<A>,

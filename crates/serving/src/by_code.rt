@@ -52,7 +52,7 @@ fn all_told<A: Allocator + Copy>(
     Ok(told)
 }
 
-/// What the report of a program's threads in an order shows, by its code. None if a thread executes too many
+/// The contents of the report of a program's threads in an order, by its code. None if a thread executes too many
 /// instructions in one turn.
 fn shown_by_code<A: Allocator + Copy>(
     alloc: A,
@@ -79,8 +79,8 @@ fn shown_by_code<A: Allocator + Copy>(
     Ok(Some(shown))
 }
 
-/// What the report of a program's threads in an order shows, by its code. None if the program has no code, the number
-/// of threads is not 1 to 64, or an entry names none of them.
+/// The contents of the report of a program's threads in an order, by its code. None if the program has no code, the
+/// number of threads is not 1 to 64, or an entry names none of them.
 pub(crate) fn order_by_code<A: Allocator + Copy>(
     alloc: A,
     accepted: &Accepted<A>,

@@ -1,4 +1,4 @@
-//! Certifying a report: whether it is what the source prints in an order of threads.
+//! Certifies a report: checks that the source prints it in an order of threads.
 
 ghost use Rattle.std.specs.Prelude.{◌≡◌, ◌⊎◌, IfErr, IfOk, IfSome, string_bytes, Some};
 ghost use Rattle.command.specs.Asked.{IsListedOrder};
@@ -25,7 +25,7 @@ use std::io;
 use std::io::{Read, Write};
 use walks::MOST_STEPS;
 
-/// Opens what a claim names, the source first, then the order and the report, and says whether it is so.
+/// Opens the files of a claim, first the source, then the order and the report, and reports whether the claim is true.
 pub(crate) fn open_claim<A: Allocator + Copy, F: Files, W: Write, E: Write>(
     alloc: A,
     file: &str,
@@ -44,7 +44,7 @@ pub(crate) fn open_claim<A: Allocator + Copy, F: Files, W: Write, E: Write>(
     }
 }
 
-/// Opens the order, and then the report, and says whether a claim is so.
+/// Opens the order, and then the report, and reports whether a claim is true.
 fn open_order<A: Allocator + Copy, F: Files, R: Read + Drop, W: Write, E: Write>(
     alloc: A,
     claim: &Claim,
@@ -63,7 +63,7 @@ fn open_order<A: Allocator + Copy, F: Files, R: Read + Drop, W: Write, E: Write>
     }
 }
 
-/// Opens the report, and says whether a claim is so.
+/// Opens the report, and reports whether a claim is true.
 fn open_report<A: Allocator + Copy, F: Files, R: Read + Drop, S: Read + Drop, W: Write, E: Write>(
     alloc: A,
     claim: &Claim,
@@ -82,9 +82,9 @@ fn open_report<A: Allocator + Copy, F: Files, R: Read + Drop, S: Read + Drop, W:
     }
 }
 
-/// Says whether a claim is so: whether a report is what the source prints in an order, or else in which line it first
-/// differs. The source is read first, then the order, once the source is accepted, and then the report, once the source
-/// has run. The status is 0 where it is so, 5 where it is not, and else as `serve` says.
+/// Reports whether a claim is true: a report is what the source prints in an order. If not, shows the first line in
+/// which it differs. The source is read first, then the order once the source is accepted, and the report once the source
+/// has run. The status is 0 if the claim is true, and 5 if it is false. Otherwise it is as for `serve`.
 pub(crate) fn certify<
     A: Allocator + Copy,
     R: Read + Drop,
@@ -110,7 +110,7 @@ pub(crate) fn certify<
     }
 }
 
-/// Says whether a claim is so of a source's text.
+/// Reports whether a claim about a source's text is true.
 fn certify_text<A: Allocator + Copy, S: Read + Drop, Q: Read + Drop, W: Write, E: Write>(
     alloc: A,
     claim: &Claim,
@@ -140,7 +140,7 @@ fn certify_text<A: Allocator + Copy, S: Read + Drop, Q: Read + Drop, W: Write, E
     }
 }
 
-/// Says whether a claim is so of an accepted program and this order.
+/// Reports whether a claim about an accepted program and this order is true.
 fn certify_order<A: Allocator + Copy, Q: Read + Drop, W: Write, E: Write>(
     alloc: A,
     claim: &Claim,
@@ -177,7 +177,7 @@ pub(crate) enum DueFault {
     Spent,
 }
 
-/// Says that a thread executes too many instructions in one turn of an order.
+/// Reports that a thread executes too many instructions in one turn of an order.
 fn too_long<E: Write>(err: &mut E) -> u8
     ensures { result ≡ 4 }
 {
@@ -188,7 +188,7 @@ fn too_long<E: Write>(err: &mut E) -> u8
     4
 }
 
-/// Says that a thread takes too many ticks in an order.
+/// Reports that a thread takes too many ticks in an order.
 fn spent<E: Write>(err: &mut E) -> u8
     ensures { result ≡ 4 }
 {
@@ -196,8 +196,8 @@ fn spent<E: Write>(err: &mut E) -> u8
     4
 }
 
-/// What the report of an accepted program in an order shows, with as many ticks as the threads take: by its code, or by
-/// the source if the code does not tell.
+/// The contents of the report of an accepted program in an order, with as many ticks as the threads take: by its code,
+/// or by the source if the code gives no report.
 fn printed_unspent<A: Allocator + Copy>(
     alloc: A,
     accepted: &Accepted<A>,
@@ -214,7 +214,7 @@ fn printed_unspent<A: Allocator + Copy>(
     }
 }
 
-/// What the report of an accepted program in an order shows, with as many ticks as the threads take, by the source.
+/// The contents of the report of an accepted program in an order, by the source, with as many ticks as the threads take.
 fn unspent_by_source<A: Allocator + Copy>(
     alloc: A,
     accepted: &Accepted<A>,
@@ -235,7 +235,7 @@ fn unspent_by_source<A: Allocator + Copy>(
     }
 }
 
-/// What the report of an accepted program in an order shows, with so many ticks.
+/// The contents of the report of an accepted program in an order, with this many ticks.
 fn printed_in<A: Allocator + Copy>(
     alloc: A,
     accepted: &Accepted<A>,
@@ -252,8 +252,8 @@ fn printed_in<A: Allocator + Copy>(
     }
 }
 
-/// What the report of an accepted program in an order shows, with the ticks that are given, or as many as the threads
-/// take.
+/// The contents of the report of an accepted program in an order, with the given number of ticks, or as many as the
+/// threads take.
 fn printed_with<A: Allocator + Copy>(
     alloc: A,
     accepted: &Accepted<A>,
@@ -288,7 +288,7 @@ fn due_report<A: Allocator + Copy>(
     }
 }
 
-/// Says whether the report in a file is the one that is due.
+/// Reports whether the report in a file is the expected one.
 fn certify_due<A: Allocator + Copy, Q: Read + Drop, W: Write, E: Write>(
     alloc: A,
     due: &[u8],
@@ -306,7 +306,7 @@ fn certify_due<A: Allocator + Copy, Q: Read + Drop, W: Write, E: Write>(
     }
 }
 
-/// The order that a file lists. What is wrong with it is told, and the error is then the exit status.
+/// The order that a file lists. The error is the exit status, and the reason is reported on standard error.
 fn order_of<A: Allocator + Copy, S: Read + Drop, E: Write>(
     alloc: A,
     file: &str,
@@ -326,7 +326,7 @@ fn order_of<A: Allocator + Copy, S: Read + Drop, E: Write>(
     }
 }
 
-/// Says that a file lists no order, and how one is written where more is to be told.
+/// Reports that a file lists no order. If lines are wanted, also reports how to write one.
 fn bad_order<E: Write>(teller: &mut Teller<'_, E>) -> u8
     ensures { result ≡ 2 }
 {
@@ -340,7 +340,7 @@ fn bad_order<E: Write>(teller: &mut Teller<'_, E>) -> u8
     status
 }
 
-/// Reads all that is left.
+/// Reads the rest.
 pub(crate) fn read_all<A: Allocator, R: Read + Drop>(
     alloc: A,
     mut reader: R,
@@ -352,7 +352,7 @@ pub(crate) fn read_all<A: Allocator, R: Read + Drop>(
     Ok(bytes)
 }
 
-/// Says whether a report is the one that is due, or shows the first line in which it differs.
+/// Reports whether a report is the expected one, or shows the first line in which it differs.
 fn tell_verdict<A: Allocator + Copy, W: Write, E: Write>(
     alloc: A,
     due: &[u8],

@@ -28,7 +28,7 @@ fn name_of(against: &Against) -> &str
     }
 }
 
-/// Opens the source, and then what its outcomes are compared with, and compares them.
+/// Opens the source, and then the file with which its outcomes are compared, and compares them.
 pub(crate) fn open_comparison<A: Allocator + Copy, F: Files, W: Write, E: Write>(
     alloc: A,
     file: &str,
@@ -46,7 +46,7 @@ pub(crate) fn open_comparison<A: Allocator + Copy, F: Files, W: Write, E: Write>
     }
 }
 
-/// Opens what a source's outcomes are compared with, and compares them.
+/// Opens the file with which a source's outcomes are compared, and compares them.
 fn open_other<A: Allocator + Copy, F: Files, R: Read + Drop, W: Write, E: Write>(
     alloc: A,
     comparison: &Comparison,
@@ -65,8 +65,8 @@ fn open_other<A: Allocator + Copy, F: Files, R: Read + Drop, W: Write, E: Write>
     }
 }
 
-/// Compares the outcomes of a source with those of another program, or with a list: says that it is so, or shows where it
-/// is not. The source is read first. The status is 0 where it is so, 5 where it is not, and else as `serve` says.
+/// Compares the outcomes of a source with those of another program, or with a list. Reports that they match, or shows
+/// the first difference. The source is read first. The status is 0 if they match, 5 if not, and else as for `serve`.
 pub(crate) fn compare<A: Allocator + Copy, R: Read + Drop, Q: Read + Drop, W: Write, E: Write>(
     alloc: A,
     comparison: &Comparison,
@@ -125,8 +125,8 @@ fn compare_text<A: Allocator + Copy, Q: Read + Drop, W: Write, E: Write>(
     }
 }
 
-/// How many threads there are, how many steps of its code one makes in a turn at most, over how many states outcomes are
-/// found, and how many MB states and list take.
+/// The number of threads, the most steps of code that a thread makes in one turn, the most states, and the most MB that
+/// states and list take.
 #[derive(Clone, Copy)]
 pub(crate) struct Limits {
     pub(crate) threads: u32,
@@ -142,8 +142,8 @@ pub(crate) fn is_whole<A: Allocator>(found: &OutcomesFound<A>) -> bool
     found.end == WalkEnd::Whole
 }
 
-/// Says at what the walk over the states of the program in a file was stopped, after the words `so_far`, and if
-/// lines are wanted which option lets it continue.
+/// Reports which limit stopped the search of the program in a file, after the words `so_far`. If lines are wanted, also
+/// reports which option lets it continue.
 pub(crate) fn tell_stopped<E: Write>(
     name: &str,
     so_far: &str,

@@ -1,4 +1,4 @@
-//! Where threads stand that trapped or go no further, told behind a report.
+//! Reports where threads trapped or stopped, after their report.
 
 use crate::tell::{Teller, show_line};
 use bytecode::{Code, InstrView};
@@ -13,14 +13,14 @@ use syntax::number::number;
 use syntax::thread_end::Trap;
 use syntax::tree::BinaryOp;
 
-/// Where a thread stands in the source, and what it could not compute there. No contract speaks of it.
+/// The place of a thread in the source, and what it could not compute there. No contract covers this.
 #[derive(Clone, Copy)]
 pub(crate) struct Stood {
     pub(crate) at: Option<Span>,
     cause: Option<TrapCause>,
 }
 
-/// Where a thread stands of which that is not known.
+/// An unknown place of a thread.
 pub(crate) fn stood_somewhere() -> Stood {
     Stood {
         at: None,
@@ -28,7 +28,7 @@ pub(crate) fn stood_somewhere() -> Stood {
     }
 }
 
-/// What a thread could not compute that trapped at an instruction, by the words there.
+/// What a thread could not compute when it trapped at an instruction, found from the words there.
 fn cause_in_code<A: Allocator>(code: &Code<A>, shown: PlaceShown) -> Option<TrapCause> {
     match code.instr(shown.place as usize)? {
         InstrView::Compute(op, ty, _, _, _) => {
@@ -45,7 +45,7 @@ fn cause_in_code<A: Allocator>(code: &Code<A>, shown: PlaceShown) -> Option<Trap
     }
 }
 
-/// Where a thread of a code stands.
+/// The place in the source of a thread that executes code.
 pub(crate) fn stood_in_code<A: Allocator>(code: &Code<A>, shown: PlaceShown) -> Stood {
     Stood {
         at: code.span_at(shown.place as usize),
@@ -53,7 +53,7 @@ pub(crate) fn stood_in_code<A: Allocator>(code: &Code<A>, shown: PlaceShown) -> 
     }
 }
 
-/// Where a thread of the source stands.
+/// The place of a thread of the source.
 fn stood_in_source(halted: Option<HaltPlace>) -> Stood {
     match halted {
         Some(halted) => Stood {
@@ -64,7 +64,7 @@ fn stood_in_source(halted: Option<HaltPlace>) -> Stood {
     }
 }
 
-/// Where threads of the source stand, as far as memory is had for it.
+/// The places of threads of the source, as far as there is memory for them.
 pub(crate) fn all_stood_in_source<A: Allocator + Copy>(
     alloc: A,
     threads: &[ThreadReport<A>],
@@ -78,7 +78,7 @@ pub(crate) fn all_stood_in_source<A: Allocator + Copy>(
     all
 }
 
-/// Where threads of a code stand, as far as memory is had for it.
+/// The places in the source of threads that execute code, as far as there is memory for them.
 pub(crate) fn all_stood_in_code<A: Allocator + Copy>(
     alloc: A,
     code: &Code<A>,
@@ -93,9 +93,9 @@ pub(crate) fn all_stood_in_code<A: Allocator + Copy>(
     all
 }
 
-/// A thread of which a report tells how it is found.
+/// A thread with the end that a report shows.
 pub(crate) trait HasEnd {
-    /// How the thread is found.
+    /// The end of the thread.
     fn end(&self) -> End;
 }
 
@@ -111,7 +111,7 @@ impl HasEnd for ThreadSeen<'_> {
     }
 }
 
-/// A thread that is reported where its steps are used up, or not at all.
+/// A thread that is reported if it used up its steps, and otherwise not.
 #[derive(Drop)]
 struct LongThread {
     is_long: bool,
@@ -127,7 +127,7 @@ impl HasEnd for LongThread {
     }
 }
 
-/// Reports where threads use up their steps: those that are shown as out of ticks.
+/// Reports where threads used up their steps: the threads that are shown as out of ticks.
 pub(crate) fn tell_long<A: Allocator + Copy, E: Write>(
     alloc: A,
     text: &str,
@@ -146,8 +146,8 @@ pub(crate) fn tell_long<A: Allocator + Copy, E: Write>(
     tell_threads(alloc, text, all.as_slice(), stood, &mut shown, err);
 }
 
-/// Tells where each thread stands that trapped or goes no further, where lines are wanted, with the line of the source:
-/// once, where several stand at one place.
+/// If lines are wanted, reports where each thread trapped or stopped, with the source line. If several threads are at
+/// one place, it shows the line once.
 pub(crate) fn tell_ends<A: Allocator + Copy, T: HasEnd, E: Write>(
     alloc: A,
     text: &str,
@@ -161,7 +161,7 @@ pub(crate) fn tell_ends<A: Allocator + Copy, T: HasEnd, E: Write>(
     }
 }
 
-/// Tells where each thread stands that trapped or goes no further, with the line of the source where that was not shown
+/// Reports where each thread trapped or stopped. It shows the source line of each place that has not been shown
 /// yet.
 pub(crate) fn tell_threads<A: Allocator + Copy, T: HasEnd, E: Write>(
     alloc: A,
@@ -181,7 +181,7 @@ pub(crate) fn tell_threads<A: Allocator + Copy, T: HasEnd, E: Write>(
     }
 }
 
-/// Shows the line of a place that was not shown yet.
+/// Shows the source line of a place that has not been shown yet.
 fn show_new<A: Allocator + Copy, E: Write>(
     alloc: A,
     text: &str,
@@ -194,7 +194,7 @@ fn show_new<A: Allocator + Copy, E: Write>(
     };
     if !is_among(at, shown.as_slice()) {
         show_line(alloc, text, at, err);
-        let _ = shown.push(at); // where memory is refused it is shown again
+        let _ = shown.push(at); // after an allocation failure it is shown again
     }
 }
 
@@ -208,7 +208,7 @@ fn is_among(at: Span, shown: &[Span]) -> bool {
     false
 }
 
-/// Whether some thread that trapped or goes no further stands at a place that was not shown yet.
+/// Whether some thread trapped or stopped at a place that has not been shown yet.
 pub(crate) fn is_some_new<A: Allocator>(
     threads: &[ThreadShown<A>],
     stood: &[Stood],
@@ -225,7 +225,7 @@ pub(crate) fn is_some_new<A: Allocator>(
     false
 }
 
-/// Whether a place is known, and was not shown yet.
+/// Whether a place is known and has not been shown yet.
 fn is_new(at: Option<Span>, shown: &[Span]) -> bool {
     match at {
         Some(at) => !is_among(at, shown),
@@ -233,7 +233,7 @@ fn is_new(at: Option<Span>, shown: &[Span]) -> bool {
     }
 }
 
-/// Tells how a thread was found and where, if it has not ended: whether it tells something.
+/// If a thread has not ended, reports how and where it stopped. Returns whether it reported anything.
 fn tell_end<E: Write>(text: &str, number: usize, end: End, stood: Stood, err: &mut E) -> bool {
     let words = match end {
         End::Ended => return false,
@@ -254,7 +254,7 @@ fn tell_end<E: Write>(text: &str, number: usize, end: End, stood: Stood, err: &m
     true
 }
 
-/// Tells where a thread trapped, and what it could not compute.
+/// Reports where a thread trapped, and what it could not compute.
 fn tell_trap<E: Write>(text: &str, number: usize, trap: Trap, stood: Stood, err: &mut E) {
     let _ = write!(err, "txc: thread {number}: trap {}", trap.number());
     write_place(text, stood.at, err);
@@ -301,7 +301,7 @@ fn write_cause<E: Write>(text: &str, trap: Trap, cause: TrapCause, at: Option<Sp
     }
 }
 
-/// Writes the operands of an operator that could not be computed.
+/// Writes the operands of an operation that could not be computed.
 fn write_operation<E: Write>(
     trap: Trap,
     op: BinaryOp,
@@ -325,7 +325,7 @@ fn write_operation<E: Write>(
     };
 }
 
-/// Writes the number of a word whose type is not known: where it may be negative as `int` and not as `unsigned`, both.
+/// Writes a word of unknown type: both its values if it is negative as `int` and not as `unsigned`.
 fn write_word<E: Write>(word: u64, err: &mut E) {
     let signed = number(Scalar::Int, word);
     let _ = if word <= u64::from(u32::MAX) && signed < 0 {
@@ -335,7 +335,7 @@ fn write_word<E: Write>(word: u64, err: &mut E) {
     };
 }
 
-/// The name that begins there, or nothing where none does.
+/// The name that begins at this place, or nothing if none does.
 fn name_at(text: &str, from: usize) -> &[u8] {
     let behind = text.as_bytes().get(from..text.len()).unwrap_or(b"");
     'bytes: for (at, byte) in behind.iter().enumerate() {
@@ -346,7 +346,7 @@ fn name_at(text: &str, from: usize) -> &[u8] {
     behind
 }
 
-/// Writes the name of the array of which an element stands there.
+/// Writes the name of the array whose element is at this place.
 fn write_array<E: Write>(text: &str, at: Option<Span>, err: &mut E) {
     let name = match at {
         Some(at) => name_at(text, at.start),

@@ -1,4 +1,4 @@
-//! Whether a list of outcomes is the one that is expected.
+//! Whether a list of outcomes is the expected one.
 
 ghost use Rattle.std.specs.Prelude.{◌≡◌, Some, codes};
 ghost use Rattle.serving.specs.Limits.{HasNoCode};
@@ -21,7 +21,7 @@ use report::list_text;
 use std::alloc::Allocator;
 use std::io::{Read, Write};
 
-/// Says whether the list of a source's outcomes is the one in a file, which is read once they are found.
+/// Reports whether the list of a source's outcomes is the one in a file, which is read once they are found.
 pub(crate) fn expect<A: Allocator + Copy, Q: Read + Drop, W: Write, E: Write>(
     alloc: A,
     limits: Limits,
@@ -49,7 +49,7 @@ pub(crate) fn expect<A: Allocator + Copy, Q: Read + Drop, W: Write, E: Write>(
     }
 }
 
-/// Says whether the list of these outcomes is the one in a file.
+/// Reports whether the list of these outcomes is the one in a file.
 fn expect_outcomes<A: Allocator + Copy, Q: Read + Drop, W: Write, E: Write>(
     alloc: A,
     found: &OutcomesFound<A>,
@@ -75,7 +75,7 @@ fn expect_outcomes<A: Allocator + Copy, Q: Read + Drop, W: Write, E: Write>(
     }
 }
 
-/// Says whether a list of these outcomes is the one in a file.
+/// Reports whether a list of these outcomes is the one in a file.
 fn expect_list<A: Allocator + Copy, Q: Read + Drop, W: Write, E: Write>(
     alloc: A,
     found: &OutcomesFound<A>,
@@ -94,7 +94,7 @@ fn expect_list<A: Allocator + Copy, Q: Read + Drop, W: Write, E: Write>(
     }
 }
 
-/// Says whether a list of these outcomes is the one that is expected, or shows the first line in which it differs.
+/// Reports whether a list of these outcomes is the expected one, or shows the first line in which it differs.
 fn tell_expected<A: Allocator + Copy, W: Write, E: Write>(
     alloc: A,
     found: &OutcomesFound<A>,
@@ -115,7 +115,7 @@ fn tell_expected<A: Allocator + Copy, W: Write, E: Write>(
     }
 }
 
-/// Says that a list of these outcomes is the one that is expected, where these are all: else more may come out.
+/// Reports that a list of these outcomes is the expected one, if these are all outcomes. Otherwise there may be more.
 fn tell_same<A: Allocator, W: Write, E: Write>(
     found: &OutcomesFound<A>,
     out: &mut W,
@@ -131,8 +131,8 @@ fn tell_same<A: Allocator, W: Write, E: Write>(
     }
 }
 
-/// Shows the first line in which a list of these outcomes differs, where these are all: else what differs may be one
-/// that was not met.
+/// Shows the first line in which a list of these outcomes differs, if these are all. Otherwise the difference may be an
+/// outcome that was not found.
 fn tell_unexpected<A: Allocator, W: Write, E: Write>(
     found: &OutcomesFound<A>,
     difference: &[u8],

@@ -30,12 +30,12 @@ use std::thread::Threads;
 use std::time::Clock;
 use world::WorldFault;
 
-/// Where files are opened by their names.
+/// A place where files are opened by their names.
 pub trait Files {
     /// A file that was opened, to be read from its beginning.
     type File: Read + Drop;
 
-    /// The bytes of the file of each name, where they are known.
+    /// The bytes of the file with each name, if they are known.
     ghost contents: { Self → List ℕ → Option (List ℕ) };
 
     /// Opens the file of a name.
@@ -43,7 +43,7 @@ pub trait Files {
         ensures { IfOk result (λ file. Self.File.remaining file ≡ contents self.now name.now) };
 }
 
-/// Opens the files that a request names, does what is asked over them and two writers, and gives the exit status, as
+/// Opens the files that a request names, answers the request over them and two writers, and returns the exit status, as
 /// `serve` does.
 ///
 /// The source is opened first, and then a schedule, or an order and a report, or the file with which outcomes are
@@ -132,7 +132,7 @@ pub fn serve_files<
     }
 }
 
-/// Opens the source, and then does what is asked.
+/// Opens the source, and then answers the request.
 fn open_source<H: Threads + Wait + Sync, F: Files, W: Write, E: Write + Send>(
     rt: &H,
     alloc: Global,
@@ -151,7 +151,7 @@ fn open_source<H: Threads + Wait + Sync, F: Files, W: Write, E: Write + Send>(
     }
 }
 
-/// Opens the schedule that a task names, if it names one, and then does what is asked.
+/// Opens the schedule that a task names, if it names one, and then answers the request.
 fn open_schedule<H: Threads + Wait + Sync, F: Files, R: Read + Drop, W: Write, E: Write + Send>(
     rt: &H,
     alloc: Global,
@@ -194,7 +194,7 @@ pub fn schedule_of(task: &Task) -> Option<&str>
     }
 }
 
-/// Reads a source. What is wrong with it is told, and the error is then the exit status.
+/// Reads a source. The error is the exit status, and the reason is reported on standard error.
 pub(crate) fn text_of<A: Allocator + Copy, R: Read + Drop, E: Write>(
     alloc: A,
     source: R,
@@ -221,7 +221,7 @@ pub(crate) fn text_of<A: Allocator + Copy, R: Read + Drop, E: Write>(
 /// One byte more than a source may have.
 const BEYOND_MOST_BYTES: u64 = MOST_BYTES as u64 + 1;
 
-/// What a file holds, as a source.
+/// The contents of a file, as a source.
 #[derive(Drop)]
 pub enum SourceText<A: Allocator = Global> {
     Text(String<A>),
@@ -240,7 +240,7 @@ pub fn read_bytes<A: Allocator, R: Read + Drop>(alloc: A, source: R) -> io::Resu
     Ok(bytes)
 }
 
-/// What bytes are as a source.
+/// Bytes as a source.
 fn source_of<A: Allocator>(bytes: Vec<u8, A>) -> SourceText<A>
     ensures { IsTextOf bytes.items result }
 {
@@ -250,7 +250,7 @@ fn source_of<A: Allocator>(bytes: Vec<u8, A>) -> SourceText<A>
     }
 }
 
-/// Reads a source: all of it, where it is a text, and else up to one byte past the most that it may have.
+/// Reads a source: all of it if it is a text, and otherwise up to one byte past the most that it may have.
 pub fn read_source<A: Allocator, R: Read + Drop>(alloc: A, source: R) -> io::Result<SourceText<A>>
     ensures { IfOk result (λ s. IfSome (R.remaining source) (λ bytes. IsTextOf bytes s)) }
 {
@@ -262,7 +262,7 @@ pub fn read_source<A: Allocator, R: Read + Drop>(alloc: A, source: R) -> io::Res
     }
 }
 
-/// Reads a text to its end. There is none where the bytes are not UTF-8.
+/// Reads a text to its end. There is none if the bytes are not UTF-8.
 fn read_text<A: Allocator, R: Read + Drop>(alloc: A, mut reader: R) -> io::Result<Option<String<A>>>
     ensures { IfOk result (λ o. IfSome o (λ s. IfSome (R.remaining reader) (λ bytes. string_bytes s ≡ bytes))) }
 {
@@ -271,7 +271,7 @@ fn read_text<A: Allocator, R: Read + Drop>(alloc: A, mut reader: R) -> io::Resul
     Ok(String::from_utf8(bytes).ok())
 }
 
-/// The lines of a schedule, a seed or an order. What is wrong with them is told, and the error is then the exit status.
+/// The lines of a schedule, a seed or an order. The error is the exit status, and the reason is reported.
 pub(crate) fn lines_of<A: Allocator + Copy, S: Read + Drop, E: Write>(
     alloc: A,
     code: &Code<A>,

@@ -1,5 +1,5 @@
-//! What `txc check` tells besides: what is warned of a source that is accepted, and the further faults of one that is
-//! refused.
+//! Further reports of `txc check`: warnings about an accepted source, and faults after the first one of a refused
+//! source.
 
 use crate::program::SourceFault;
 use crate::tell::{Teller, show_line};
@@ -12,10 +12,10 @@ use std::alloc::Allocator;
 use std::io::Write;
 use warnings::{Warning, warnings};
 
-/// The most warnings that are told of a source.
+/// The most warnings that are reported for a source.
 const MOST_WARNINGS: usize = 20;
 
-/// Tells what is warned of a source that is accepted. Where memory is refused it tells nothing.
+/// Reports the warnings about an accepted source. Reports nothing after an allocation failure.
 pub(crate) fn tell_warnings<A: Allocator + Copy, E: Write>(
     alloc: A,
     text: &str,
@@ -38,7 +38,7 @@ pub(crate) fn tell_warnings<A: Allocator + Copy, E: Write>(
     }
 }
 
-/// Tells a warning, and behind it the line that it stands in where that is wanted.
+/// Reports a warning, followed by its source line if lines are wanted.
 fn tell_warning<A: Allocator + Copy, E: Write>(
     alloc: A,
     text: &str,
@@ -71,7 +71,7 @@ fn tell_warning<A: Allocator + Copy, E: Write>(
     }
 }
 
-/// Shows where the other thing stands that a warning speaks of, and what may be done.
+/// Shows the other place that a warning mentions, and its advice.
 fn show_advice<E: Write>(text: &str, warning: Warning, words: WarningWords, err: &mut E) {
     if let Some(other) = warning.other {
         let besides = words.besides;
@@ -82,7 +82,7 @@ fn show_advice<E: Write>(text: &str, warning: Warning, words: WarningWords, err:
     let _ = writeln!(err, "{advice}");
 }
 
-/// Whether a fault is the one that is told first.
+/// Whether a fault is the one that is reported first.
 fn is_first(fault: Fault, first: SourceFault) -> bool {
     match first.span() {
         Some(span) => fault.number == first.number() && fault.span.start == span.start,
@@ -90,8 +90,8 @@ fn is_first(fault: Fault, first: SourceFault) -> bool {
     }
 }
 
-/// Tells the faults of a source that can be told beside its first one, and how many there are where they are more than
-/// that. Where memory is refused it tells nothing.
+/// Reports the faults of a source after its first one, as far as they can be reported. It also reports their number if
+/// there are several. It reports nothing after an allocation failure.
 pub(crate) fn tell_faults<A: Allocator + Copy, E: Write>(
     alloc: A,
     text: &str,

@@ -1,4 +1,4 @@
-//! What a report shows of globals.
+//! The globals that a report shows.
 
 ghost use Rattle.std.specs.Prelude.{◌≡◌, ◌++◌, map, take, drop, IfOk, OnOk};
 ghost use Rattle.syntax.specs.Views.{program_of, item_of, global_of};
@@ -44,7 +44,7 @@ fn push_items<A: Allocator + Copy>(
     Ok(())
 }
 
-/// Adds globals, and gives the words beyond theirs.
+/// Adds globals, and returns the words after theirs.
 fn push_globals<'a, A: Allocator + Copy>(
     alloc: A,
     shown: &mut Items<Shown<A>, A>,

@@ -24,10 +24,10 @@ use safety::laws::a_safe_program_has_no_fault;
 use separation::laws::a_fault_touches;
 use syntax::laws::{orders_show_runs, threads_go_on, threads_leave_memories};
 
-/// The theorem about the machine, of programs: for every accepted program, every valid code that means it and has its
-/// globals, every number of threads and every list of steps there is a run of the source, in which each transaction is
-/// a single step, that explains what the threads have printed, how they have ended, the words, and each attempt
-/// (`machine::laws::opaque` says how). `lower` makes such code.
+/// The machine's theorem, stated for programs. It covers every accepted program, every valid code that means it and has
+/// its globals, every number of threads, and every list of steps. A run of the source, in which each transaction is a
+/// single step, then explains the threads' output and ends, the words, and each attempt (`machine::laws::opaque` says
+/// how). `lower` generates such code.
 pub fn accepted_programs_are_opaque()
     ensures { (p : Program) (code : Plain) (threads : ℕ) (steps : List ℕ) →
         IsAccepted p → IsValid code → IsCodeOf p code → threads ≤ 2 ^ 32 →

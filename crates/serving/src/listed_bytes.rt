@@ -1,9 +1,9 @@
-//! How much memory the orders of a list take, with the text that is made of them. No promise: it is reckoned.
+//! Estimates the memory that the orders of a list take, with the text generated from them. No contract covers this.
 
 use report::ReportedOrder;
 use std::alloc::Allocator;
 
-/// Bytes of what holds one order, one thread or one global, beside what it lists.
+/// The bytes that an order, a thread or a global takes in addition to what it lists.
 const HEAD: usize = 128;
 
 /// The bytes of an entry of an order: a number, and its digits.
@@ -12,7 +12,7 @@ const ENTRY: usize = 7;
 /// The bytes of a word: itself, and its digits.
 const WORD: usize = 24;
 
-/// The bytes of a listed order, as it is kept and as it is written.
+/// The bytes of a listed order, as it is stored and as it is written.
 pub(crate) fn bytes_of<A: Allocator>(one: &ReportedOrder<A>) -> u64 {
     let mut bytes = one
         .order

@@ -1,5 +1,5 @@
-//! Where threads stand that trapped in listed outcomes, or wait in orders that are stuck, and which option lets a walk go
-//! on that was stopped, told behind the list.
+//! Reports after a list: where threads trapped in listed outcomes or wait in stuck orders, and which option lets a
+//! stopped search continue.
 
 use crate::ends::{is_some_new, tell_long, tell_threads};
 use crate::program::read_accepted;
@@ -14,9 +14,9 @@ use separation::Accepted;
 use std::alloc::Allocator;
 use std::io::Write;
 
-/// Tells where threads trapped in outcomes, and where they stand in orders that are stuck, where lines are wanted: of
-/// each order that shows a place of which none before has told. The orders are run once more for it. Of a walk that was
-/// stopped it says which option lets it go on.
+/// If lines are wanted, reports where threads trapped in outcomes, and where they wait in stuck orders. It covers each
+/// order that shows a place not reported before, and runs these orders once more. If a search was stopped, it reports
+/// which option lets the search continue.
 pub(crate) fn tell_listed_ends<A: Allocator + Copy, E: Write>(
     alloc: A,
     text: &str,
@@ -41,8 +41,8 @@ pub(crate) fn tell_listed_ends<A: Allocator + Copy, E: Write>(
     tell_stop(found.end, teller.err);
 }
 
-/// Tells where threads stand in orders that are stuck, where properties are asked and lines are wanted, as of listed
-/// ones. Of a walk that was stopped it says which option lets it go on.
+/// If lines are wanted, reports where threads wait in the stuck orders of a search for properties, as after a list.
+/// If the search was stopped, it also reports which option lets it continue.
 pub(crate) fn tell_asked_ends<A: Allocator + Copy, E: Write>(
     alloc: A,
     text: &str,
@@ -139,7 +139,7 @@ fn tell_reason<A: Allocator + Copy, E: Write>(
     }
 }
 
-/// Says which option lets a walk go on that was stopped.
+/// Reports which option lets a stopped search continue.
 pub(crate) fn tell_stop<E: Write>(end: WalkEnd, err: &mut E) {
     let words = match end {
         WalkEnd::Whole => return,
@@ -152,7 +152,7 @@ pub(crate) fn tell_stop<E: Write>(end: WalkEnd, err: &mut E) {
     let _ = writeln!(err, "txc: {words}");
 }
 
-/// Tells of each of these orders where threads stand.
+/// Reports for each of these orders where its threads trapped or wait.
 fn tell_orders<A: Allocator + Copy, E: Write>(
     alloc: A,
     text: &str,
@@ -179,7 +179,7 @@ fn have_all_ended<A: Allocator>(threads: &[ThreadShown<A>]) -> bool {
     true
 }
 
-/// Tells of an order where threads stand, if one stands at a place that was not shown yet.
+/// Reports where the threads of an order trapped or wait, if one is at a place that has not been shown yet.
 fn tell_order<A: Allocator + Copy, E: Write>(
     alloc: A,
     text: &str,
@@ -199,7 +199,7 @@ fn tell_order<A: Allocator + Copy, E: Write>(
     }
 }
 
-/// Tells of which order what follows is, as a word of a command line.
+/// Names the order that the next report is about, as a word of a command line.
 pub(crate) fn write_order<E: Write>(order: &[u32], err: &mut E) {
     let _ = err.write_all(b"txc: with --order ");
     if order.is_empty() {

@@ -1,4 +1,4 @@
-//! `txc listing`: the code of a source.
+//! `txc listing`: lists the code of a source.
 
 ghost use Rattle.std.specs.Prelude.{IfOk, IfErr, string_bytes};
 ghost use Rattle.serving.specs.Listings.{ShowsListing, PrintsListing};

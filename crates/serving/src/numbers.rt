@@ -214,7 +214,7 @@ fn first_unused<'a>(
     Ok(None)
 }
 
-/// Says that a name is in no source.
+/// Reports that a name is in no source.
 fn unused<E: Write>(name: &str, file: &str, err: &mut E) -> u8
     ensures { result ≡ 2 }
 {
@@ -224,7 +224,7 @@ fn unused<E: Write>(name: &str, file: &str, err: &mut E) -> u8
     UNUSABLE
 }
 
-/// Says that there is no source that could have a name.
+/// Reports that there is no source that could contain a name.
 fn sourceless<E: Write>(err: &mut E) -> u8
     ensures { result ≡ 2 }
 {

@@ -18,7 +18,7 @@ use std::alloc::Allocator;
 use std::io::{Read, Write};
 use world::StopReason;
 
-/// Replays steps of a source's threads, and draws them from an access on.
+/// Replays steps of a source's threads, and draws them, starting at an access.
 pub(crate) fn draw<A: Allocator + Copy, S: Read + Drop, W: Write, E: Write>(
     alloc: A,
     text: &str,
@@ -44,7 +44,7 @@ pub(crate) fn draw<A: Allocator + Copy, S: Read + Drop, W: Write, E: Write>(
     }
 }
 
-/// The picture of a replay. There is none where memory was refused, for it or for a step: no picture tells of that.
+/// The picture of a replay. There is none if an allocation failed, for it or in a step: no picture shows that.
 fn picture_of<A: Allocator + Copy>(
     alloc: A,
     file: &str,
@@ -74,7 +74,7 @@ fn picture_of<A: Allocator + Copy>(
     }
 }
 
-/// Prints the picture of a replay. Gives the exit status as `print_for_replay` does.
+/// Prints the picture of a replay. Returns the exit status as `print_for_replay` does.
 fn print_picture<A: Allocator + Copy, W: Write, E: Write>(
     alloc: A,
     text: &str,

@@ -17,23 +17,23 @@ use std::alloc::Allocator;
 use std::io;
 use std::io::{ErrorKind, Write};
 
-/// The exit status where all is well: threads ended, a source is accepted, help was told.
+/// The exit status of success: threads ended, a source is accepted, or help was printed.
 pub(crate) const ENDED: u8 = 0;
 
-/// The exit status where the source is refused.
+/// The exit status if the source is refused.
 pub(crate) const REFUSED: u8 = 1;
 
-/// The exit status where the words or a file are of no use.
+/// The exit status if the words or a file are unusable.
 pub(crate) const UNUSABLE: u8 = 2;
 
-/// The exit status where a thread trapped.
+/// The exit status if a thread trapped.
 pub(crate) const TRAPPED: u8 = 3;
 
-/// The exit status where the program could not do its work: memory or output was refused, or a thread went no further.
+/// The exit status if the program could not do its work: an allocation or the output failed, or a thread stopped.
 pub(crate) const STOPPED: u8 = 4;
 
-/// The exit status where something is not so: a report is not the one that the source prints, outcomes are not those
-/// that were said, or a property fails.
+/// The exit status if a claim is refuted: a report is not the one that the source prints, outcomes are not the expected
+/// ones, or a property fails.
 pub(crate) const REFUTED: u8 = 5;
 
 /// Whether a thread has neither ended nor trapped.
@@ -57,14 +57,14 @@ pub(crate) fn has_stopped<A: Allocator>(threads: &[ThreadShown<A>]) -> bool
     threads.iter().any(|thread| is_stopped(thread.end))
 }
 
-/// Whether a thread's ticks are used up.
+/// Whether a thread has used up its ticks.
 fn is_spent(end: End) -> bool
     ensures { result ≡ is_spent end }
 {
     matches!(end, End::Spent)
 }
 
-/// Whether some thread's ticks are used up.
+/// Whether some thread has used up its ticks.
 pub(crate) fn has_spent<A: Allocator>(threads: &[ThreadShown<A>]) -> bool
     ensures { result ≡ list_any (λ t. is_spent t.end) threads.now }
 {
@@ -78,8 +78,8 @@ pub(crate) fn has_trapped<A: Allocator>(threads: &[ThreadShown<A>]) -> bool
     threads.iter().any(|thread| is_trapped(thread.end))
 }
 
-/// The exit status where a report was printed: by whether some thread has neither ended nor trapped, and whether some has
-/// trapped.
+/// The exit status after a report was printed, by whether some thread has neither ended nor trapped, and whether some
+/// thread has trapped.
 fn status_by(stopped: bool, trapped: bool) -> u8
     ensures { result ≡ (if stopped then 4 else if trapped then 3 else 0) }
 {
@@ -92,7 +92,7 @@ fn status_by(stopped: bool, trapped: bool) -> u8
     }
 }
 
-/// The exit status where a report was printed: by the ends of its threads.
+/// The exit status after a report was printed, by the ends of its threads.
 pub(crate) fn status_of<A: Allocator>(printed: &Printed<A>) -> u8
     ensures { result ≡ exit_status (printed_of printed.now) }
 {
@@ -100,21 +100,21 @@ pub(crate) fn status_of<A: Allocator>(printed: &Printed<A>) -> u8
     status_by(has_stopped(threads), has_trapped(threads))
 }
 
-/// Whether some thread whose text lies elsewhere has neither ended nor trapped.
+/// Whether some thread whose text is stored elsewhere has neither ended nor trapped.
 fn some_seen_stopped(threads: &[ThreadSeen<'_>]) -> bool
     ensures { result ≡ list_any (λ t. is_stopped t.end) threads.now }
 {
     threads.iter().any(|thread| is_stopped(thread.end))
 }
 
-/// Whether some thread whose text lies elsewhere has trapped.
+/// Whether some thread whose text is stored elsewhere has trapped.
 fn some_seen_trapped(threads: &[ThreadSeen<'_>]) -> bool
     ensures { result ≡ list_any (λ t. is_trapped t.end) threads.now }
 {
     threads.iter().any(|thread| is_trapped(thread.end))
 }
 
-/// Writes a text, as `write_all` does. Where that fails a beginning of it is written.
+/// Writes a text, as `write_all` does. If that fails, a beginning of the text has been written.
 fn write_text<W: Write>(text: &[u8], out: &mut W) -> io::Result<()>
     ensures whole { OnOk result (Appends (W.contents out.old) (W.contents out.new) text.now) }
     ensures part { AppendsBeginning (W.contents out.old) (W.contents out.new) text.now }
@@ -146,7 +146,7 @@ pub(crate) fn print<W: Write>(text: &[u8], out: &mut W) -> io::Result<()>
     out.flush()
 }
 
-/// Prints a text, and gives the exit status.
+/// Prints a text, and returns the exit status.
 pub(crate) fn print_text<W: Write, E: Write>(text: &[u8], out: &mut W, err: &mut E) -> u8
     ensures status { (result ≡ 0) ⊎ (result ≡ 4) }
     ensures printed { result ≡ 0 → Appends (W.contents out.old) (W.contents out.new) text.now }
@@ -158,7 +158,7 @@ pub(crate) fn print_text<W: Write, E: Write>(text: &[u8], out: &mut W, err: &mut
     }
 }
 
-/// Writes pieces of a text, one behind another. Where that fails a beginning of the text is written.
+/// Writes the pieces of a text, one after another. If that fails, a beginning of the text has been written.
 fn write_pieces<A: Allocator, W: Write>(pieces: &[Piece<'_, A>], out: &mut W) -> io::Result<()>
     ensures whole { OnOk result (Appends (W.contents out.old) (W.contents out.new) (joined pieces.now)) }
     ensures part { AppendsBeginning (W.contents out.old) (W.contents out.new) (joined pieces.now) }
@@ -178,7 +178,7 @@ fn print_pieces<A: Allocator, W: Write>(pieces: &[Piece<'_, A>], out: &mut W) ->
     out.flush()
 }
 
-/// Prints a report, each thread's text from where it lies, and gives the exit status by the ends of its threads.
+/// Prints a report, each thread's text from where it is stored, and returns the exit status by its threads' ends.
 pub(crate) fn print_report<A: Allocator + Copy, W: Write, E: Write>(
     alloc: A,
     printed: &Printed<A>,
@@ -196,8 +196,8 @@ pub(crate) fn print_report<A: Allocator + Copy, W: Write, E: Write>(
     }
 }
 
-/// Prints a report of no events, of threads whose texts lie elsewhere, each text from there, and gives the exit status by
-/// their ends.
+/// Prints a report without events, of threads whose texts are stored elsewhere. It prints each text from there, and
+/// returns the exit status by the threads' ends.
 pub(crate) fn print_seen<A: Allocator + Copy, W: Write, E: Write>(
     alloc: A,
     threads: &[ThreadSeen<'_>],

@@ -25,7 +25,7 @@ use types::{Typed, check};
 /// Why a source is refused.
 #[derive(Clone, Copy, Debug, Error)]
 pub enum SourceFault {
-    /// A growth was refused. It says nothing of the source.
+    /// An allocation failed. This says nothing about the source.
     #[error("out of memory")]
     OutOfMemory,
     #[error("{0}")]
@@ -40,7 +40,7 @@ pub enum SourceFault {
 }
 
 impl SourceFault {
-    /// The fault's number: 0 where memory was refused, and else that of the phase that found it.
+    /// The fault's number: 0 after an allocation failure, and otherwise that of the phase that found it.
     pub fn number(&self) -> u32
         ensures { result ≡ number_of_source self.now }
     {
@@ -53,7 +53,7 @@ impl SourceFault {
         }
     }
 
-    /// Where the fault stands in the text. Want of memory stands nowhere.
+    /// Where the fault is in the text. An allocation failure has no place.
     pub fn span(&self) -> Option<Span>
         ensures { result ≡ span_of_source self.now }
     {

@@ -11,32 +11,32 @@ use std::alloc::Allocator;
 use std::io::{ErrorKind, Write};
 use walks::{Progress, Walk};
 
-/// After how many further states or outcomes the line is written anew.
+/// The line is rewritten each time there are this many further states or outcomes.
 const STRIDE: usize = 1000;
 
-/// Writes how far a walk is, over what was written before, and keeps count of the memory that it takes.
+/// Shows the progress of a search, in place of the previous line, and counts the memory that the search takes.
 #[derive(Drop)]
 pub(crate) struct ProgressLine<'e, E: Write> {
     err: &'e mut E,
-    /// Whether it is to be shown.
+    /// Whether the line is wanted.
     is_wanted: bool,
     /// Whether the reason is reported if a search stops.
     explains: bool,
     /// Whether a line is shown.
     is_shown: bool,
     states: usize,
-    /// In how many states each thread has made its turn.
+    /// The number of states in which each thread has made its turn.
     expanded: usize,
-    /// How many states or outcomes there are before it is written anew.
+    /// The number of states or outcomes at which the line is rewritten next.
     due: usize,
-    /// How many bytes the states and the list may take: the states half of them, and the list what these leave.
+    /// The most bytes for states and list: the states take at most half of them, and the list the rest.
     most: u64,
-    /// How many bytes the states take.
+    /// The number of bytes that the states take.
     held: u64,
-    /// How many orders of the list were looked at, and how many bytes they take.
+    /// The number of orders of the list that have been counted, and their bytes.
     listed: usize,
     listed_bytes: u64,
-    /// Whether more memory was wanted.
+    /// Whether the memory limit was exceeded.
     is_full: bool,
     /// Whether the search, or the list, exceeded its time.
     is_late: bool,
@@ -45,7 +45,7 @@ pub(crate) struct ProgressLine<'e, E: Write> {
 }
 
 impl<'e, E: Write> ProgressLine<'e, E> {
-    /// No line yet, and so many bytes for all.
+    /// No line yet, and this many bytes for all.
     pub(crate) fn new(err: &'e mut E, detail: Detail<'_>, most: u64) -> ProgressLine<'e, E> {
         ProgressLine {
             err,
@@ -107,7 +107,7 @@ impl<'e, E: Write> ProgressLine<'e, E> {
         }
     }
 
-    /// These are listed, of outcomes or of stuck orders, one more than before or none.
+    /// This many outcomes or stuck orders are listed: one more than before, or the same number.
     pub(crate) fn list<A: Allocator + Copy>(&mut self, listed: &ReportSet<A>) {
         let count = listed.len();
         if count != self.listed {
@@ -123,7 +123,7 @@ impl<'e, E: Write> ProgressLine<'e, E> {
         self.watch_time();
     }
 
-    /// Writes how many are listed.
+    /// Shows how many are listed.
     fn show_listed(&mut self, listed: usize) {
         if self.is_wanted && listed >= self.due {
             self.due = listed.saturating_add(STRIDE);
@@ -132,7 +132,7 @@ impl<'e, E: Write> ProgressLine<'e, E> {
         }
     }
 
-    /// Takes the line away.
+    /// Clears the line.
     pub(crate) fn clear(&mut self) {
         if self.is_shown {
             self.is_shown = false;

@@ -1,4 +1,4 @@
-//! Whether each outcome of one program is one of another's.
+//! Whether each outcome of one program is an outcome of another.
 
 ghost use Rattle.std.specs.Prelude.{◌≡◌, ◌≢◌, ◌≤◌, ◌⊎◌, ◌-◌, [], IfErr, IfOk, IfSome, is_some, length, map, true, Some};
 ghost use Rattle.syntax.specs.Views.{program_of};
@@ -27,8 +27,8 @@ use report::ReportedOrder;
 use std::alloc::Allocator;
 use std::io::{Read, Write};
 
-/// Says whether each outcome of a source's text is one of the program's in a file, which is read next: for one number
-/// of threads after another, from that of the limits to the last, up to the first whose status is not 0.
+/// Reports whether each outcome of a source's text is one of the program in a file, which is read next. It tries one
+/// number of threads after another, from that of the limits to the last, up to the first whose status is not 0.
 pub(crate) fn refine<A: Allocator + Copy, Q: Read + Drop, W: Write, E: Write>(
     alloc: A,
     limits: Limits,
@@ -50,7 +50,7 @@ pub(crate) fn refine<A: Allocator + Copy, Q: Read + Drop, W: Write, E: Write>(
     }
 }
 
-/// Says whether each outcome of a source's text is one of the other's.
+/// Reports whether each outcome of a source's text is one of the other's.
 fn refine_text<A: Allocator + Copy, W: Write, E: Write>(
     alloc: A,
     limits: Limits,
@@ -74,7 +74,7 @@ fn refine_text<A: Allocator + Copy, W: Write, E: Write>(
     }
 }
 
-/// Says why the source is refused whose outcomes are to be those of another, and which one it is.
+/// Reports why the other source is refused, and names its file.
 fn refuse_other<A: Allocator + Copy, E: Write>(
     alloc: A,
     text: &str,
@@ -91,7 +91,7 @@ fn refuse_other<A: Allocator + Copy, E: Write>(
     tell_whose(status, name, teller)
 }
 
-/// Says whether each outcome of a program is one of another's, for one number of threads after another.
+/// Reports whether each outcome of a program is one of another's, for one number of threads after another.
 fn refine_in_turn<A: Allocator + Copy, W: Write, E: Write>(
     alloc: A,
     limits: Limits,
@@ -120,7 +120,7 @@ fn refine_in_turn<A: Allocator + Copy, W: Write, E: Write>(
     refine_programs(alloc, each, this, name, that, out, teller)
 }
 
-/// Says whether each outcome of a program is one of another's.
+/// Reports whether each outcome of a program is one of another's.
 fn refine_programs<A: Allocator + Copy, W: Write, E: Write>(
     alloc: A,
     limits: Limits,
@@ -146,7 +146,7 @@ fn refine_programs<A: Allocator + Copy, W: Write, E: Write>(
     }
 }
 
-/// The outcomes of a program. What hinders it is told, and the error is then the exit status.
+/// The outcomes of a program. The error is the exit status, and the reason is reported on standard error.
 fn outcomes_found<A: Allocator + Copy, E: Write>(
     alloc: A,
     limits: Limits,
@@ -174,7 +174,7 @@ fn outcomes_found<A: Allocator + Copy, E: Write>(
     }
 }
 
-/// Says whether each of these outcomes is one of the others, where both are all.
+/// Reports whether each of these outcomes is one of the others, if both are all outcomes.
 fn tell_found<A: Allocator + Copy, W: Write, E: Write>(
     alloc: A,
     threads: u32,
@@ -203,7 +203,7 @@ fn tell_found<A: Allocator + Copy, W: Write, E: Write>(
     }
 }
 
-/// Shows an outcome that is none of the others.
+/// Shows an outcome that is not one of the others.
 fn tell_beyond<A: Allocator + Copy, W: Write, E: Write>(
     alloc: A,
     name: &str,
@@ -223,7 +223,7 @@ fn tell_beyond<A: Allocator + Copy, W: Write, E: Write>(
     }
 }
 
-/// Says that each outcome is one of the others, unless an order is stuck.
+/// Reports that each outcome is one of the others, unless an order is stuck.
 fn tell_refined<A: Allocator + Copy, W: Write, E: Write>(
     alloc: A,
     threads: u32,
@@ -253,7 +253,7 @@ fn tell_refined<A: Allocator + Copy, W: Write, E: Write>(
     }
 }
 
-/// Says of which file the fault is that was told, where it is not told by itself. Gives the exit status.
+/// Names the file of the fault that was just reported, if its report does not name it. Returns the exit status.
 fn tell_whose<E: Write>(status: u8, name: &str, teller: &mut Teller<'_, E>) -> u8
     ensures { result ≡ status }
 {
@@ -265,7 +265,7 @@ fn tell_whose<E: Write>(status: u8, name: &str, teller: &mut Teller<'_, E>) -> u
     status
 }
 
-/// Says that some order of the source is stuck, and where lines are wanted the first one.
+/// Reports that some order of the source is stuck, and shows the first one if lines are wanted.
 fn tell_stuck<A: Allocator, E: Write>(found: &OutcomesFound<A>, teller: &mut Teller<'_, E>) -> u8
     ensures { result ≡ 4 }
 {

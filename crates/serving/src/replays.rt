@@ -1,4 +1,4 @@
-//! `txc replay`: steps of a source's threads, by a schedule, a seed or an order; what is shown of each step.
+//! `txc replay`: replays steps of a source's threads by a schedule, a seed or an order, and shows each step.
 
 ghost use Rattle.std.specs.Prelude.{◌≡◌, ◌⊎◌, ◌++◌, IfErr, IfOk, IfSome, None, ◌<◌, ◌↔◌, Err, map};
 ghost use Rattle.std.specs.Prelude.{string_bytes};
@@ -66,7 +66,7 @@ pub(crate) fn replay_source<A: Allocator + Copy, S: Read + Drop, W: Write, E: Wr
     }
 }
 
-/// Tells where threads stand that a replay leaves before their ends, where that is wanted.
+/// Reports where a replay leaves threads that have not ended, if lines are wanted.
 fn tell_replayed<A: Allocator + Copy, E: Write>(
     alloc: A,
     text: &str,
@@ -77,7 +77,7 @@ fn tell_replayed<A: Allocator + Copy, E: Write>(
     tell_ends(alloc, text, found, replayed.stood.as_slice(), teller);
 }
 
-/// Replays steps of a source's threads, and prints what is shown of each and their report.
+/// Replays steps of a source's threads, shows each step, and prints the threads' report.
 pub(crate) fn show_steps<A: Allocator + Copy, S: Read + Drop, W: Write, E: Write>(
     alloc: A,
     text: &str,
@@ -104,7 +104,7 @@ pub(crate) fn show_steps<A: Allocator + Copy, S: Read + Drop, W: Write, E: Write
     }
 }
 
-/// Replays steps of a source's threads. What is wrong is told, and the error is then the exit status.
+/// Replays steps of a source's threads. The error is the exit status, and the reason is reported on standard error.
 pub(crate) fn replay_text<A: Allocator + Copy, S: Read + Drop, E: Write>(
     alloc: A,
     text: &str,
@@ -179,7 +179,7 @@ pub(crate) fn print_order<A: Allocator + Copy, W: Write, E: Write>(
     }
 }
 
-/// Prints what is shown of a replay, and gives the exit status: by the ends of its threads, or by a step that was not
+/// Prints a text about a replay, and returns the exit status: by the ends of its threads, or by a step that was not
 /// made.
 pub(crate) fn print_for_replay<A: Allocator, W: Write, E: Write>(
     text: &[u8],
@@ -201,7 +201,7 @@ pub(crate) fn print_for_replay<A: Allocator, W: Write, E: Write>(
     }
 }
 
-/// Prints the report of a replay. Gives the exit status as `print_for_replay` does.
+/// Prints the report of a replay. Returns the exit status as `print_for_replay` does.
 fn print_replay<A: Allocator + Copy, W: Write, E: Write>(
     alloc: A,
     replayed: &Replayed<A>,
@@ -217,7 +217,7 @@ fn print_replay<A: Allocator + Copy, W: Write, E: Write>(
     }
 }
 
-/// What is shown of each step of a replay, and behind it the report. There is no text where memory was refused.
+/// The lines of the steps of a replay, followed by its report. There is no text after an allocation failure.
 fn timeline_and_report<A: Allocator + Copy>(
     alloc: A,
     code: &Code<A>,
@@ -228,7 +228,7 @@ fn timeline_and_report<A: Allocator + Copy>(
         (λ v. v.items ≡ timeline_text code.now (timeline_of (simulation_after code.now threads replayed.now.made.items))
         ++ report_text (printed_of replayed.now.printed)) }
 {
-    // The steps were made once, so where they have no lines memory was refused.
+    // The steps were made once, so if they have no lines, an allocation failed.
     let mut text = lines_shown(alloc, code, threads, replayed.made.as_slice())?;
     let Ok(report) = report_text(alloc, &replayed.printed) else {
         return None;
@@ -239,7 +239,7 @@ fn timeline_and_report<A: Allocator + Copy>(
     }
 }
 
-/// Prints what is shown of each step of a replay, and then its report. Gives the exit status as `print_for_replay`
+/// Prints the lines of the steps of a replay, and then its report. Returns the exit status as `print_for_replay`
 /// does.
 fn print_timeline<A: Allocator + Copy, W: Write, E: Write>(
     alloc: A,
@@ -260,20 +260,20 @@ fn print_timeline<A: Allocator + Copy, W: Write, E: Write>(
     }
 }
 
-/// What a replay leaves.
+/// The result of a replay.
 #[derive(Drop)]
 pub struct Replayed<A: Allocator = Global> {
     pub printed: Printed<A>,
-    /// The step that was not made, if one was not.
+    /// The step that was not made, if there is one.
     pub stop: Option<WorldStop>,
     /// The thread of each step that was made.
     pub made: Vec<u32, A>,
-    /// Where each thread stands in the source, as far as memory was had for it.
+    /// The place of each thread in the source, as far as there was memory for it.
     pub(crate) stood: Vec<Stood, A>,
 }
 
-/// Makes the steps that lines name, with so many threads of a program's code. What it promises is of code that means
-/// the program and has its globals. A fault is `WrongThreads` exactly where the number is not 1 to 64, and else
+/// Makes the steps that lines name, with this many threads of a program's code. Its contract applies to code that means
+/// the program and has its globals. The fault is `WrongThreads` exactly if the number is not 1 to 64, and otherwise
 /// `OutOfMemory`.
 pub fn replay_code<A: Allocator + Copy>(
     alloc: A,
@@ -293,7 +293,7 @@ pub fn replay_code<A: Allocator + Copy>(
     }
 }
 
-/// What the report of a replay shows.
+/// The contents of the report of a replay.
 fn shown_after_replay<A: Allocator + Copy>(
     alloc: A,
     unit: &Unit<A>,
@@ -320,7 +320,7 @@ fn shown_after_replay<A: Allocator + Copy>(
     })
 }
 
-/// Threads, by how each is found and what it has printed.
+/// The threads that are shown, with their ends and outputs.
 fn threads_shown<A: Allocator + Copy>(
     alloc: A,
     found: Vec<(WorldEnd, String<A>), A>,
@@ -334,7 +334,7 @@ fn threads_shown<A: Allocator + Copy>(
     Ok(threads)
 }
 
-/// A thread, by how it is found and what it has printed.
+/// The thread that is shown, with its end and output.
 fn thread_shown<A: Allocator>(found: (WorldEnd, String<A>)) -> ThreadShown<A>
     ensures { thread_of result ≡ thread_found (found.0, string_bytes found.1) }
 {
@@ -345,7 +345,7 @@ fn thread_shown<A: Allocator>(found: (WorldEnd, String<A>)) -> ThreadShown<A>
     }
 }
 
-/// How a thread is found after a replay.
+/// The end of a thread after a replay.
 fn end_after_replay(end: WorldEnd) -> End
     ensures { result ≡ spec.end_after_replay end }
 {
@@ -358,8 +358,8 @@ fn end_after_replay(end: WorldEnd) -> End
     }
 }
 
-/// The lines that show these steps of so many threads of a code. There are none where memory was refused, and where one
-/// of the steps cannot be made.
+/// The lines that show these steps of this many threads of a code. There are none after an allocation failure, or if
+/// one of the steps cannot be made.
 pub fn lines_shown<A: Allocator + Copy>(
     alloc: A,
     code: &Code<A>,

@@ -26,12 +26,12 @@ use std::sync::Wait;
 use std::thread::Threads;
 use workers::RunFault;
 
-/// The bytes of so many MB.
+/// The bytes of this many MB.
 pub(crate) fn bytes_of_memory(memory: u32) -> u64 {
     u64::from(memory) * 1048576
 }
 
-/// Does what is asked with the program in a file.
+/// Answers a request about the program in a file.
 pub(crate) fn serve_program<
     H: Threads + Wait + Sync,
     R: Read + Drop,
@@ -56,8 +56,8 @@ pub(crate) fn serve_program<
     }
 }
 
-/// Does what is asked with the program in a file, as `serve` does, in memory of any allocator. No thread is started for
-/// it, so that `run` is told as a run whose threads were not.
+/// Answers a request about the program in a file, as `serve` does, in memory of any allocator. It starts no thread, so
+/// `run` reports that its threads were not started.
 pub fn serve_alone<A: Allocator + Copy, R: Read + Drop, S: Read + Drop, W: Write, E: Write>(
     alloc: A,
     task: &Task,
@@ -81,7 +81,7 @@ pub fn serve_alone<A: Allocator + Copy, R: Read + Drop, S: Read + Drop, W: Write
     }
 }
 
-/// Does what is asked with the text of the program in a file.
+/// Answers a request about the text of the program in a file.
 fn work<H: Threads + Wait + Sync, S: Read + Drop, W: Write, E: Write + Send>(
     rt: &H,
     alloc: Global,
@@ -115,7 +115,7 @@ fn work<H: Threads + Wait + Sync, S: Read + Drop, W: Write, E: Write + Send>(
     }
 }
 
-/// Does what is asked with the text of the program in a file, and starts no threads.
+/// Answers a request about the text of the program in a file, and starts no threads.
 fn work_alone<A: Allocator + Copy, S: Read + Drop, W: Write, E: Write>(
     alloc: A,
     task: &Task,
@@ -203,7 +203,7 @@ fn work_alone<A: Allocator + Copy, S: Read + Drop, W: Write, E: Write>(
     }
 }
 
-/// Says what a fault means.
+/// Reports what a fault means.
 pub(crate) fn explain<W: Write, E: Write>(number: u32, out: &mut W, err: &mut E) -> u8
     ensures { (result ≡ 0) ⊎ (result ≡ 2) ⊎ (result ≡ 4) }
 {
@@ -213,7 +213,7 @@ pub(crate) fn explain<W: Write, E: Write>(number: u32, out: &mut W, err: &mut E)
     }
 }
 
-/// Says what the end of a thread means, by its word and the number behind that.
+/// Reports what the end of a thread means, by its word and the number after it.
 pub(crate) fn explain_end<W: Write, E: Write>(
     word: &str,
     number: Option<u32>,

@@ -38,9 +38,9 @@ use syntax::thread_end::Status;
 use syntax::tree::Unit;
 use workers::{Ending, Finished, Gate, RunFault, RunMemory, RunReport, run_all};
 
-/// Runs all threads of a source at once, over so many bytes of memory, prints their report, and tells where threads stand
-/// that did not end and what was counted, where that is wanted. While they run it is shown how far they are, where that
-/// is.
+/// Runs all threads of a source at once over this many bytes of memory, and prints their report. If lines are wanted,
+/// it reports where threads trapped or stopped. If counts are wanted, it reports them. While the threads run, it shows
+/// their progress if that is wanted.
 pub(crate) fn run<H: Threads + Wait + Sync, W: Write, E: Write + Send>(
     rt: &H,
     alloc: Global,
@@ -73,12 +73,12 @@ pub(crate) fn run<H: Threads + Wait + Sync, W: Write, E: Write + Send>(
 pub(crate) enum ThreadsFault {
     /// The source is refused.
     Source(SourceFault),
-    /// The run is.
+    /// The run is refused.
     Run(RunFault),
 }
 
-/// What a run leaves: the threads and the words, what is shown of the globals, and where each thread stands in the source,
-/// by its number, as far as memory is had for it.
+/// The result of a run: the threads and the words, what is shown of the globals, and the place of each thread in the
+/// source, by its number, as far as there is memory for it.
 #[derive(Drop)]
 struct RunLeft {
     ran: RunReport,
@@ -86,8 +86,8 @@ struct RunLeft {
     stood: Vec<Stood>,
 }
 
-/// Prints the report of a run of so many threads, each one's text from where the thread has it. Tells where threads stand
-/// that did not end and what was counted, where that is wanted.
+/// Prints the report of a run of this many threads, each text from the thread itself. If they are wanted, it also
+/// reports counts, and where threads trapped or stopped.
 fn print_left<W: Write, E: Write>(
     alloc: Global,
     text: &str,
@@ -112,7 +112,7 @@ fn print_left<W: Write, E: Write>(
     }
 }
 
-/// Runs all threads of a source's text at once, each with so many steps at most: what they leave.
+/// Runs all threads of a source's text at once, each with at most this many steps. Returns what they leave.
 fn run_threads<H: Threads + Wait + Sync, G: Gate + Sync>(
     rt: &H,
     alloc: Global,
@@ -133,8 +133,8 @@ fn run_threads<H: Threads + Wait + Sync, G: Gate + Sync>(
     }
 }
 
-/// Runs all threads of a program's code at once. What it promises is of code that means the program and has its
-/// globals.
+/// Runs all threads of a program's code at once. Its contract applies to code that means the program and has the
+/// program's globals.
 fn run_code<H: Threads + Wait + Sync, G: Gate + Sync>(
     rt: &H,
     alloc: Global,
@@ -162,7 +162,7 @@ fn run_code<H: Threads + Wait + Sync, G: Gate + Sync>(
     }
 }
 
-/// Where so many threads stand, by their numbers, as far as memory is had for it.
+/// The places of this many threads, by their numbers, as far as there is memory for them.
 fn all_stood(alloc: Global, code: &Code, threads: u32, finished: &[Finished]) -> Vec<Stood> {
     let mut all = Vec::new(alloc);
     'threads: for number in 0..threads {
@@ -177,7 +177,7 @@ fn all_stood(alloc: Global, code: &Code, threads: u32, finished: &[Finished]) ->
     all
 }
 
-/// The globals, where no thread has the lock.
+/// The globals, if no thread has the lock.
 fn memory_shown(
     alloc: Global,
     unit: &Unit,
@@ -201,7 +201,7 @@ fn holder_of(memory: &RunMemory) -> Option<u32>
     }
 }
 
-/// What is shown of so many threads, by their numbers.
+/// What is shown of this many threads, by their numbers.
 fn threads_seen(
     alloc: Global,
     count: u32,
@@ -224,7 +224,7 @@ fn thread_seen(number: u32, ran: &RunReport) -> ThreadSeen<'_>
     finished_seen(stopped, thread_numbered(ran.threads.as_slice(), number))
 }
 
-/// A thread after a run, where there is one, with the text that it has.
+/// What is shown of a thread after a run, if there is one, with the text that it has.
 fn finished_seen(stopped: Option<Stop>, thread: Option<&Finished>) -> ThreadSeen<'_>
     ensures { seen_of result ≡ spec.finished_shown stopped (option_map (λ f. f.now) thread.entry) }
 {
@@ -271,7 +271,7 @@ fn thread_stop(ends: &[Ending], number: u32) -> Option<Stop>
     stop_of(ending_numbered(ends, number))
 }
 
-/// How a thread is found: by its status, and by what stopped it.
+/// The end that is shown of a thread, by its status and by what stopped it.
 fn end_of_run(status: Status, stopped: Option<Stop>) -> End
     ensures { result ≡ spec.end_of_run status stopped }
 {

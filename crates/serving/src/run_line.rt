@@ -1,13 +1,13 @@
-//! How far the threads of a run are, in one line of standard error, and whether there is memory for more.
+//! The progress of the threads of a run, in one line of standard error, and whether memory remains.
 
 use std::io::Write;
 use std::sync::Mutex;
 use workers::Gate;
 
-/// After how many further steps of a thread the line is written anew: some tenth of a second.
+/// The line is rewritten each time a thread has made this many further steps: about a tenth of a second.
 const STRIDE: u64 = 16_777_216;
 
-/// How often what a thread has printed and logged is held at most: a list that is full is copied to where it has twice the
+/// The most copies of a thread's output and log at one time: a full list is copied to a place that has twice the
 /// room.
 const COPIES: u64 = 3;
 
@@ -16,13 +16,13 @@ const COPIES: u64 = 3;
 struct RunLine<'e, E: Write> {
     err: &'e mut E,
     budget: u64,
-    /// How many steps a thread has made before it is written anew.
+    /// The number of a thread's steps at which the line is rewritten next.
     due: u64,
     is_shown: bool,
 }
 
 impl<E: Write> RunLine<'_, E> {
-    /// A thread has made so many steps.
+    /// Shows that a thread has made this many steps.
     fn tell(&mut self, steps: u64) {
         if steps < self.due {
             return;
@@ -42,7 +42,7 @@ impl<E: Write> RunLine<'_, E> {
         let _ = self.err.flush();
     }
 
-    /// Takes the line away.
+    /// Clears the line.
     fn clear(&mut self) {
         if self.is_shown {
             self.is_shown = false;
@@ -51,18 +51,18 @@ impl<E: Write> RunLine<'_, E> {
     }
 }
 
-/// Holds no thread back, shows how far they are, and says whether a thread has memory for more.
+/// Lets every thread run, shows their progress, and reports whether a thread has memory for more.
 #[derive(Drop)]
 pub(crate) struct RunWatch<'e, E: Write> {
     line: Mutex<RunLine<'e, E>>,
-    /// Whether the line is to be shown.
+    /// Whether the line is shown.
     is_wanted: bool,
     /// How many bytes each thread may take.
     share: u64,
 }
 
 impl<'e, E: Write> RunWatch<'e, E> {
-    /// No line yet, and equal parts of so many bytes for so many threads.
+    /// No line yet, and an equal share of this many bytes for each of this many threads.
     pub(crate) fn new(
         err: &'e mut E,
         is_wanted: bool,
@@ -83,7 +83,7 @@ impl<'e, E: Write> RunWatch<'e, E> {
         }
     }
 
-    /// Takes the line away.
+    /// Clears the line.
     pub(crate) fn clear(self) {
         let RunWatch { line, .. } = self;
         let mut line = line.into_inner();

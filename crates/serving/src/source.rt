@@ -62,13 +62,13 @@ pub enum OrderFault {
     /// The source is refused.
     #[error("{0}")]
     Source(SourceFault),
-    /// The order is.
+    /// The order is refused.
     #[error("{0}")]
     Order(MeaningFault),
 }
 
 impl OrderFault {
-    /// The fault's number: that of the source's or of the order's.
+    /// The fault's number, from the source or from the order.
     pub fn number(&self) -> u32
         ensures { result ≡ number_of_order self.now }
     {
@@ -79,7 +79,7 @@ impl OrderFault {
     }
 }
 
-/// Runs threads of a source's text in an order, and gives what their report shows. The order is looked at last.
+/// Runs threads of a source's text in an order, and returns what their report shows. The order is checked last.
 pub fn run_in_order<A: Allocator + Copy>(
     alloc: A,
     text: &str,
@@ -97,7 +97,7 @@ pub fn run_in_order<A: Allocator + Copy>(
     }
 }
 
-/// Runs threads of a source's text in an order: what their report shows, and where they stand.
+/// Runs threads of a source's text in an order. Returns what their report shows, and the threads' places.
 fn order_of_text<A: Allocator + Copy>(
     alloc: A,
     text: &str,
@@ -118,7 +118,7 @@ fn order_of_text<A: Allocator + Copy>(
     }
 }
 
-/// Runs threads of an accepted program in an order: what their report shows, and where they stand.
+/// Runs threads of an accepted program in an order. Returns what their report shows, and the threads' places.
 pub(crate) fn order_accepted<A: Allocator + Copy>(
     alloc: A,
     accepted: &Accepted<A>,
@@ -138,7 +138,7 @@ pub(crate) fn order_accepted<A: Allocator + Copy>(
     }
 }
 
-/// What a report shows of this memory, and of threads after their turns.
+/// The contents of a report on this memory, and on threads after their turns.
 pub(crate) fn shown_with<A: Allocator + Copy>(
     alloc: A,
     unit: &Unit<A>,
@@ -158,7 +158,7 @@ pub(crate) fn shown_with<A: Allocator + Copy>(
     })
 }
 
-/// What the report of threads in an order shows.
+/// The contents of the report on threads in an order.
 fn shown_in_order<A: Allocator + Copy>(
     alloc: A,
     unit: &Unit<A>,
@@ -172,7 +172,7 @@ fn shown_in_order<A: Allocator + Copy>(
     Ok(shown)
 }
 
-/// What is shown of threads after their turns.
+/// The threads that are shown after their turns.
 fn threads_shown<A: Allocator + Copy>(
     alloc: A,
     reports: Vec<ThreadReport<A>, A>,
@@ -186,7 +186,7 @@ fn threads_shown<A: Allocator + Copy>(
     Ok(threads)
 }
 
-/// What is shown of a thread after its turns.
+/// The thread that is shown after its turns.
 fn thread_shown<A: Allocator>(report: ThreadReport<A>) -> ThreadShown<A>
     ensures { thread_of result ≡ report_shown report }
 {
@@ -196,7 +196,7 @@ fn thread_shown<A: Allocator>(report: ThreadReport<A>) -> ThreadShown<A>
     }
 }
 
-/// How a thread is found after its turns in an order.
+/// The end of a thread after its turns in an order.
 fn end_in_order(end: ThreadEnd) -> End
     ensures { result ≡ order_end (thread_end_in end) }
 {

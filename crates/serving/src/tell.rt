@@ -1,4 +1,4 @@
-//! What standard error is told.
+//! Reports on standard error.
 
 ghost use Rattle.std.specs.Prelude.{◌≡◌, ◌≢◌, ◌≤◌, ◌⊎◌, is_some, true};
 ghost use Rattle.serving.specs.Refusals.{span_of_source};
@@ -21,26 +21,26 @@ use std::io::{ErrorKind, Write};
 use workers::{Finished, RunFault};
 use world::{StopReason, WorldFault, WorldStop};
 
-/// How faults are told.
+/// How faults are reported.
 #[derive(Clone, Copy)]
 pub struct Detail<'a> {
-    /// Whether the line of the source follows.
+    /// Whether the source line follows.
     pub(crate) lines: bool,
-    /// Whether it is shown how far a walk is.
+    /// Whether the progress of a search is shown.
     pub(crate) progress: bool,
-    /// Whether it is said why a file cannot be read.
+    /// Whether the reason is reported if a file cannot be read.
     reasons: bool,
-    /// The file of the source.
+    /// The name of the source file.
     pub(crate) file: &'a str,
     pub(crate) format: Format,
-    /// Whether `txc check` tells more than was asked for.
+    /// Whether `txc check` also reports warnings and further faults.
     pub(crate) further: bool,
-    /// Whether traces of what a search finds first are shown.
+    /// Whether traces of a search's first findings are shown.
     pub(crate) traces: bool,
 }
 
 impl<'a> Detail<'a> {
-    /// How faults of a file's program are told, as the words ask and where standard error is a terminal or not.
+    /// How faults of a file's program are reported, by the options and by whether standard error is a terminal.
     pub fn of(file: &'a str, verbose: bool, format: Format, is_terminal: bool) -> Detail<'a> {
         Detail {
             lines: match format {
@@ -66,14 +66,14 @@ impl<'a> Detail<'a> {
         }
     }
 
-    /// The same detail, with traces of what a search finds first if they are wanted.
+    /// The same detail, with traces of a search's first findings if they are wanted.
     fn with_traces(self, are_wanted: bool) -> Detail<'a> {
         let mut detail = self.of_file(self.file);
         detail.traces = self.traces || are_wanted;
         detail
     }
 
-    /// How faults of another file's program are told.
+    /// How faults of another file's program are reported.
     pub(crate) fn of_file<'b>(self, file: &'b str) -> Detail<'b> {
         Detail {
             lines: self.lines,
@@ -87,25 +87,25 @@ impl<'a> Detail<'a> {
     }
 }
 
-/// Tells what is wrong with a file's program, and how far work on it is, as its detail asks. What is told in one way alone
-/// takes the writer. What the writer does not take is lost.
+/// Reports faults of a file's program and the progress of a search, as its detail says. A report that has only one form
+/// takes the writer itself. Text that the writer does not take is lost.
 #[derive(Drop)]
 pub struct Teller<'a, E: Write> {
-    /// Where it is told.
+    /// The writer for reports.
     pub(crate) err: &'a mut E,
-    /// How.
+    /// The detail of the reports.
     pub(crate) detail: Detail<'a>,
 }
 
 impl<'a, E: Write> Teller<'a, E> {
-    /// Tells it there, and so.
+    /// Reports to this writer, with this detail.
     pub fn new(err: &'a mut E, detail: Detail<'a>) -> Teller<'a, E> {
         Teller { err, detail }
     }
 }
 
 impl<E: Write> Teller<'_, E> {
-    /// A teller with the same writer, and with traces of what a search finds first if they are wanted.
+    /// A teller with the same writer, and with traces of a search's first findings if they are wanted.
     pub(crate) fn with_traces(&mut self, are_wanted: bool) -> Teller<'_, E> {
         Teller {
             err: &mut *self.err,
@@ -113,7 +113,7 @@ impl<E: Write> Teller<'_, E> {
         }
     }
 
-    /// Says why a source is refused.
+    /// Reports why a source is refused.
     pub(crate) fn refuse<A: Allocator + Copy>(
         &mut self,
         alloc: A,
@@ -136,7 +136,7 @@ impl<E: Write> Teller<'_, E> {
         }
     }
 
-    /// Tells the fault of a number at a span of the source, and shows the line of it where that is wanted.
+    /// Reports the fault of this number at a span of the source, and shows the source line if lines are wanted.
     pub(crate) fn tell_with_line<A: Allocator + Copy>(
         &mut self,
         alloc: A,
@@ -152,8 +152,8 @@ impl<E: Write> Teller<'_, E> {
         }
     }
 
-    /// Tells the fault of a number at a span of the source. Where memory for another form is refused, that is the plain
-    /// one.
+    /// Reports the fault of this number at a span of the source. After an allocation failure, the plain form replaces
+    /// any other form.
     fn tell_fault<A: Allocator + Copy>(&mut self, alloc: A, text: &str, number: u32, span: Span) {
         if let Some(line) = line_of(alloc, text, number, span, self.detail) {
             let _ = self.err.write_all(line.as_slice());
@@ -175,7 +175,7 @@ impl<E: Write> Teller<'_, E> {
         }
     }
 
-    /// Says what a fault's number means, where that is wanted, and where more is said.
+    /// Reports what a fault's number means, if that is wanted, and where to read more.
     fn show_words(&mut self, number: u32) {
         if self.detail.lines {
             let _ = writeln!(self.err, "{}", words(number));
@@ -183,7 +183,7 @@ impl<E: Write> Teller<'_, E> {
         }
     }
 
-    /// Says that a file cannot be read, and why where that is wanted.
+    /// Reports that a file cannot be read, and the reason if that is wanted.
     fn cannot_read(&mut self, file: &str, error: &io::Error) -> u8
         ensures { result ≡ 2 }
     {
@@ -233,7 +233,7 @@ impl<E: Write> Teller<'_, E> {
         UNUSABLE
     }
 
-    /// Says why a file was not opened or not read: memory was refused, or the file cannot be read.
+    /// Reports why a file was not opened or read: an allocation failed, or the file cannot be read.
     pub fn not_read(&mut self, file: &str, error: &io::Error) -> u8
         ensures status { (result ≡ 2) ⊎ (result ≡ 4) }
         ensures memory { error_kind error.now ≡ ErrorKind.OutOfMemory → result ≡ 4 }
@@ -245,7 +245,7 @@ impl<E: Write> Teller<'_, E> {
         }
     }
 
-    /// Says that a source has too many bytes.
+    /// Reports that a source has too many bytes.
     pub(crate) fn too_long<A: Allocator + Copy>(&mut self, alloc: A) -> u8
         ensures { result ≡ 1 }
     {
@@ -258,7 +258,7 @@ impl<E: Write> Teller<'_, E> {
         REFUSED
     }
 
-    /// Says why threads were not run.
+    /// Reports why threads were not run.
     pub fn refuse_run(&mut self, fault: RunFault) -> u8
         ensures { result ≡ 4 }
     {
@@ -268,7 +268,7 @@ impl<E: Write> Teller<'_, E> {
         }
     }
 
-    /// Says that a step was not made, where that is of a thread that there is not. A report tells the other reasons.
+    /// Reports that a step was not made because its thread does not exist. The replay's report shows the other reasons.
     pub(crate) fn refuse_step(&mut self, stop: WorldStop) -> u8
         ensures { result ≡ 4 }
     {
@@ -284,7 +284,7 @@ impl<E: Write> Teller<'_, E> {
         STOPPED
     }
 
-    /// Says why a schedule is refused.
+    /// Reports why a schedule is refused.
     pub(crate) fn refuse_schedule<A: Allocator + Copy>(
         &mut self,
         alloc: A,
@@ -309,7 +309,7 @@ impl<E: Write> Teller<'_, E> {
         UNUSABLE
     }
 
-    /// Says why an order is refused.
+    /// Reports why an order is refused.
     pub(crate) fn refuse_order(&mut self, fault: MeaningFault) -> u8
         ensures status { (result ≡ 2) ⊎ (result ≡ 4) }
         ensures memory { fault ≡ MeaningFault.OutOfMemory → result ≡ 4 }
@@ -323,7 +323,7 @@ impl<E: Write> Teller<'_, E> {
         }
     }
 
-    /// Says the number of a fault that stands nowhere, and gives this exit status.
+    /// Reports the number of a fault that has no place in a file, and returns this exit status.
     fn tell_number(&mut self, number: u32, status: u8) -> u8
         ensures { result ≡ status }
     {
@@ -333,7 +333,7 @@ impl<E: Write> Teller<'_, E> {
     }
 }
 
-/// Tells help, or why words are not a request. Gives the exit status.
+/// Prints help, or reports why words are not a request. Returns the exit status.
 pub fn tell_usage<W: Write, E: Write>(fault: &UsageFault, out: &mut W, err: &mut E) -> u8
     ensures status { result ≤ 4 }
     ensures help { IsHelp fault.now → (result ≡ 0) ⊎ (result ≡ 4) }
@@ -354,7 +354,7 @@ pub fn tell_usage<W: Write, E: Write>(fault: &UsageFault, out: &mut W, err: &mut
     }
 }
 
-/// The line in which a fault is told in another form than the plain one.
+/// The line that reports a fault in a form other than the plain one.
 fn line_of<A: Allocator + Copy>(
     alloc: A,
     text: &str,
@@ -375,7 +375,7 @@ fn line_of<A: Allocator + Copy>(
     }
 }
 
-/// Shows the line of a source that a span begins in, with carets under the span. Where memory is refused it shows
+/// Shows the source line in which a span begins, with carets under the span. After an allocation failure, it shows
 /// nothing.
 pub(crate) fn show_line<A: Allocator + Copy, E: Write>(
     alloc: A,
@@ -388,7 +388,7 @@ pub(crate) fn show_line<A: Allocator + Copy, E: Write>(
     }
 }
 
-/// Shows what could stand at the place of a fault, or is meant there. Where memory is refused it shows nothing.
+/// Shows what could be at the place of a fault, or what is meant there. Shows nothing after an allocation failure.
 fn show_hints<A: Allocator + Copy, E: Write>(
     alloc: A,
     text: &str,
@@ -401,12 +401,12 @@ fn show_hints<A: Allocator + Copy, E: Write>(
     }
 }
 
-/// Says where more is said of a fault.
+/// Reports where to read more about a fault.
 fn show_where_more<E: Write>(number: u32, err: &mut E) {
     let _ = writeln!(err, "txc explain {number:02} says more");
 }
 
-/// Says that memory was refused.
+/// Reports an allocation failure.
 pub(crate) fn out_of_memory<E: Write>(err: &mut E) -> u8
     ensures { result ≡ 4 }
 {
@@ -414,7 +414,7 @@ pub(crate) fn out_of_memory<E: Write>(err: &mut E) -> u8
     STOPPED
 }
 
-/// Says that the output was refused.
+/// Reports that the output could not be written.
 pub(crate) fn cannot_write<E: Write>(err: &mut E) -> u8
     ensures { result ≡ 4 }
 {
@@ -422,7 +422,7 @@ pub(crate) fn cannot_write<E: Write>(err: &mut E) -> u8
     STOPPED
 }
 
-/// Says why the words of the command line were not had: memory was refused, or one of them is not UTF-8.
+/// Reports why the words of the command line could not be read: an allocation failed, or a word is not UTF-8.
 pub fn unread_words<E: Write>(kind: ErrorKind, err: &mut E) -> u8
     ensures memory { kind ≡ ErrorKind.OutOfMemory → result ≡ 4 }
     ensures others { kind ≢ ErrorKind.OutOfMemory → result ≡ 2 }
@@ -436,7 +436,7 @@ pub fn unread_words<E: Write>(kind: ErrorKind, err: &mut E) -> u8
     }
 }
 
-/// Tells what was counted of each of so many threads, where that is wanted.
+/// Reports the counts of each of this many threads, if they are wanted.
 pub(crate) fn tell_counts<E: Write>(
     are_wanted: bool,
     threads: u32,
@@ -463,7 +463,7 @@ pub(crate) fn tell_counts<E: Write>(
     }
 }
 
-/// Says why nothing was replayed.
+/// Reports why nothing was replayed.
 pub(crate) fn refuse_replay<E: Write>(fault: WorldFault, err: &mut E) -> u8
     ensures { result ≡ 4 }
 {
@@ -476,7 +476,7 @@ pub(crate) fn refuse_replay<E: Write>(fault: WorldFault, err: &mut E) -> u8
     }
 }
 
-/// Where the line of this number stands in a text, or its last line.
+/// The span of the line with this number in a text, or of its last line.
 fn span_of_line(text: &[u8], line: usize) -> Span {
     let mut start = 0;
     let mut left = line;
@@ -495,7 +495,7 @@ fn span_of_line(text: &[u8], line: usize) -> Span {
     }
 }
 
-/// Says that words are of no use.
+/// Reports why words are unusable.
 pub(crate) fn unusable<E: Write>(why: &str, err: &mut E) -> u8
     ensures { result ≡ 2 }
 {

@@ -29,7 +29,7 @@ use turns::{Asked, Form, Source, Standing, Traced, View, turns_shown, view_text}
 /// The most ticks that a property takes.
 const MOST_TICKS: u64 = 1000000;
 
-/// Shows an order of a source's threads turn by turn, and what a function says of the last memory.
+/// Shows an order of a source's threads turn by turn, and the value of a function in the last memory.
 pub(crate) fn trace<A: Allocator + Copy, W: Write, E: Write>(
     alloc: A,
     text: &str,
@@ -171,7 +171,7 @@ fn form_of(format: Format, in_full: bool) -> Form {
     }
 }
 
-/// The trace of an order. There is none where memory was refused.
+/// The trace of an order. There is none after an allocation failure.
 pub(crate) fn trace_of<A: Allocator + Copy>(
     alloc: A,
     text: &str,
@@ -222,7 +222,7 @@ fn text_of_trace<A: Allocator + Copy>(
     view_text(alloc, unit_of(&compiled.accepted), traced, view)
 }
 
-/// How threads are after the last turn, and where they stand.
+/// The ends and the places of threads after the last turn.
 fn stands_of<A: Allocator + Copy>(
     alloc: A,
     ends: &[Status],
