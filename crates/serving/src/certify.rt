@@ -83,7 +83,7 @@ fn open_report<A: Allocator + Copy, F: Files, R: Read + Drop, S: Read + Drop, W:
 }
 
 /// Reports whether a claim is true: a report is what the source prints in an order. If not, shows the first line in
-/// which it differs. The source is read first, then the order once the source is accepted, and the report once the source
+/// which it differs. The source is read first, the order once the source is accepted, and the report once the source
 /// has run. The status is 0 if the claim is true, and 5 if it is false. Otherwise it is as for `serve`.
 pub(crate) fn certify<
     A: Allocator + Copy,
@@ -214,7 +214,7 @@ fn printed_unspent<A: Allocator + Copy>(
     }
 }
 
-/// The contents of the report of an accepted program in an order, by the source, with as many ticks as the threads take.
+/// The contents of the report of an accepted program in an order, by the source, with as many ticks as threads take.
 fn unspent_by_source<A: Allocator + Copy>(
     alloc: A,
     accepted: &Accepted<A>,

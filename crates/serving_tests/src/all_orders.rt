@@ -1,4 +1,4 @@
-//! The outcomes of sources over all orders of their threads, and that what is listed is what orders and runs show.
+//! The outcomes of sources over all orders of their threads. Orders and runs show exactly the listed outcomes.
 
 use command::Format;
 use report::{Printed, WalkEnd, report_text};
@@ -10,15 +10,15 @@ use test_serving::{ADDS, Row, answers, serve_line, wrong_row};
 
 const LAST: &str = "int x; void worker(int self) { __transaction_atomic { x = self; } }";
 
-/// Each thread shows how many were before it.
+/// Each thread shows how many came before it.
 const SAYS: &str =
     "int x; void worker(int self) { int k; __transaction_atomic { k = x; x = x + 1; } printf(\"%d\", k); }";
 
-/// Each thread takes its place where both are free: whole transactions leave one.
+/// Each thread takes one of two places if both are free. With whole transactions, one place stays free.
 const SKEW: &str =
     "int a = 1, b = 1; void worker(int self) { __transaction_atomic { if (a + b == 2) { if (self) a = 0; else b = 0; } } }";
 
-/// 7 is left by one order of three threads alone.
+/// Only one order of three threads leaves 7.
 const THIRD: &str =
     "int x; void worker(int self) { __transaction_atomic { if (x == self) x = x + 1; if (x == 3) x = 7; } }";
 
@@ -26,7 +26,7 @@ const THIRD: &str =
 const TRAPS: &str =
     "int x; void worker(int self) { int k; __transaction_atomic { k = x; x = 1; } k = 1 / k; }";
 
-/// Two locks, which two threads take in two orders.
+/// Two locks, which two threads take in opposite orders.
 const LOCKS: &[u8] = b"int locked[2], done;
 void take(int which) {
     int mine = 0;
@@ -38,7 +38,7 @@ void worker(int self) {
     __transaction_atomic { done = done + 1; locked[0] = 0; locked[1] = 0; }
 }";
 
-/// The same with two more locks, which both take after the first two: one deadlock for each pair.
+/// The same with two more locks, which both threads take after the first two: one deadlock for each pair.
 const MORE_LOCKS: &[u8] = b"int locked[4], done;
 void take(int which) {
     int mine = 0;
@@ -54,13 +54,13 @@ void worker(int self) {
     both(self, 2);
 }";
 
-/// 17 transactions inside one another: an accepted program that has no code.
+/// 17 nested transactions: an accepted program that has no code.
 const DEEP: &[u8] =
     b"int x; void worker(int self) { __transaction_atomic { __transaction_atomic { __transaction_atomic { __transaction_atomic { __transaction_atomic { __transaction_atomic { __transaction_atomic { __transaction_atomic { __transaction_atomic { __transaction_atomic { __transaction_atomic { __transaction_atomic { __transaction_atomic { __transaction_atomic { __transaction_atomic { __transaction_atomic { __transaction_atomic { x = 1; } } } } } } } } } } } } } } } } } }";
 
 fn outcome_rows() -> &'static [Row] {
     static ROWS: [Row; 24] = [
-        // two threads where no number is given
+        // two threads by default
         (
             "txc outcomes a.c",
             ADDS,
@@ -101,7 +101,7 @@ fn outcome_rows() -> &'static [Row] {
                 b"",
             ),
         ),
-        // what is printed, and a trap
+        // output, and a trap
         (
             "txc outcomes a.c --threads 2",
             b"int x; void worker(int self) { int k; __transaction_atomic { k = x; x = 1; } k = 1 / k; printf(\"%d\", k); }",
@@ -123,7 +123,7 @@ fn outcome_rows() -> &'static [Row] {
                 b"",
             ),
         ),
-        // a turn without an end; one of which only some are, and one before the first transaction
+        // a turn that never ends: always, only in some orders, and before the first transaction
         (
             "txc outcomes a.c --threads 1 --steps 1000",
             b"int x; void worker(int self) { __transaction_atomic { x = 5; } while (1) { } }",
@@ -164,7 +164,7 @@ fn outcome_rows() -> &'static [Row] {
                 b"",
             ),
         ),
-        // more states than the limit: that of the beginning, one behind each thread's turn, and that of the end
+        // more states than the limit: the initial state, one after each thread's turn, and the final state
         (
             "txc outcomes a.c --threads 2 --limit 0",
             ADDS,
@@ -205,7 +205,7 @@ fn outcome_rows() -> &'static [Row] {
                 b"",
             ),
         ),
-        // what is listed where it stops
+        // the list of a search that stops
         (
             "txc outcomes a.c --threads 2 --limit 4",
             b"int x; void worker(int self) { __transaction_atomic { x = self; } }",
@@ -246,7 +246,7 @@ fn outcome_rows() -> &'static [Row] {
                 b"txc: fault 50 at 2:25: shared access outside a transaction\n",
             ),
         ),
-        // memories that differ above the lower halves of their words alone
+        // memories that differ only above the lower halves of their words
         (
             "txc outcomes a.c --threads 2",
             b"long long x = 1; void worker(int self) { __transaction_atomic { x = x * 2 + self * 4294967296; } }",
@@ -257,7 +257,7 @@ fn outcome_rows() -> &'static [Row] {
                 b"",
             ),
         ),
-        // a thread that waits for the other one's flag, and one that waits for ever
+        // a thread that waits for the other's flag, and one that waits forever
         (
             "txc outcomes a.c --threads 2",
             b"int flag, seen; void worker(int self) { int f = self == 0; while (!f) { __transaction_atomic { f = flag; } } __transaction_atomic { if (self) seen = flag; else flag = 7; } }",
@@ -278,7 +278,7 @@ fn outcome_rows() -> &'static [Row] {
                 b"",
             ),
         ),
-        // two that wait for each other in some orders alone
+        // two threads that wait for each other only in some orders
         (
             "txc outcomes a.c --threads 2",
             LOCKS,
@@ -289,7 +289,7 @@ fn outcome_rows() -> &'static [Row] {
                 b"",
             ),
         ),
-        // a deadlock that only orders reach that avoid another
+        // a deadlock that only orders without another deadlock reach
         (
             "txc outcomes a.c --threads 2",
             MORE_LOCKS,
@@ -388,7 +388,7 @@ fn are_of_orders(alloc: Global, source: &str, threads: u32, count: usize) -> boo
     found.end == WalkEnd::Whole && found.stuck.is_empty() && found.outcomes.len() == count
 }
 
-/// The first of these sources whose outcomes are not those of their orders.
+/// The first of these sources whose outcomes do not match their orders.
 fn wrong_orders(alloc: Global) -> Option<&'static str> {
     for (source, threads, count) in sources() {
         if !are_of_orders(alloc, source, *threads, *count) {
@@ -403,7 +403,7 @@ fn outcomes_are_those_of_their_orders(rt: HostRuntime) {
     assert_eq!(rt; wrong_orders(rt.alloc()), None);
 }
 
-/// Whether a report is that of one of these outcomes.
+/// Whether one of these outcomes has a report.
 fn has_report(alloc: Global, found: &OutcomesFound, report: &[u8]) -> bool {
     for one in &found.outcomes {
         if let Some(text) = text_of(alloc, &one.shown)
@@ -415,7 +415,7 @@ fn has_report(alloc: Global, found: &OutcomesFound, report: &[u8]) -> bool {
     false
 }
 
-/// What a run of all threads at once prints.
+/// The output of a run of all threads at once.
 fn run_of<H: Threads + Wait + Sync>(
     rt: &H,
     alloc: Global,
@@ -452,7 +452,7 @@ fn runs_are_listed<H: Threads + Wait + Sync>(
     true
 }
 
-/// The first of these sources that ran otherwise.
+/// The first of these sources with a run that is not listed.
 fn wrong_run<H: Threads + Wait + Sync>(rt: &H, alloc: Global) -> Option<&'static str> {
     for (source, threads, _) in sources() {
         if !runs_are_listed(rt, alloc, source, *threads) {

@@ -1,11 +1,11 @@
-//! What is told beside a fault on a terminal.
+//! The words that follow a fault on a terminal.
 
 use std::alloc::Global;
 use std::sync::Wait;
 use std::thread::Threads;
 use test_serving::answers;
 
-/// A source, and what is told of it behind its line.
+/// A source, and the words that follow its source line.
 type Row = (&'static str, &'static str);
 
 fn rows() -> &'static [Row] {
@@ -122,7 +122,7 @@ fn rows() -> &'static [Row] {
     &ROWS
 }
 
-/// The source of the first row that is told otherwise.
+/// The source of the first row with another report.
 fn told_otherwise<H: Threads + Wait + Sync>(rt: &H, alloc: Global) -> Option<&'static str> {
     for (source, told) in rows() {
         let wanted = (1, b"".as_slice(), told.as_bytes());

@@ -11,7 +11,7 @@ use std::thread::Threads;
 use std::time::Clock;
 use test_serving::{ADDS, ServeResult, asked_of};
 
-/// The three files that there are.
+/// The three files.
 #[derive(Drop)]
 struct ThreeFiles {
     /// The file `a.c`.
@@ -43,14 +43,14 @@ impl Files for ThreeFiles {
     }
 }
 
-/// A command line, what is found of its three files, and what is answered.
+/// A command line, the results of opening its three files, and the answer.
 type Row = (&'static str, Found, Found, Found, ServeResult<'static>);
 
 const TWO: &str = "txc certify a.c --threads 2 --order-file s --report r";
 
 const SHORT: &str = "txc certify a.c --threads 2 --order-file s --report r --ticks 4";
 
-/// Two threads that each write twice what they are and have read.
+/// Two threads that each append a digit to `x` twice.
 const WRITES: Found = Ok(
     b"unsigned x; void worker(int self) {
     __transaction_atomic { x = 10u * x + self + 1u; }
@@ -66,7 +66,7 @@ const CERTIFIED: ServeResult<'static> = (0, b"certified\n", b"");
 fn rows() -> &'static [Row] {
     static ROWS: [Row; 30] = [
         (TWO, Ok(ADDS), Ok(b"0,1"), ADDED, CERTIFIED),
-        // orders as they are written
+        // orders in each notation
         (TWO, Ok(ADDS), Ok(b"1 0\n"), ADDED, CERTIFIED),
         (TWO, Ok(ADDS), Ok(b"\n0\r\n\t1 ,\n"), ADDED, CERTIFIED),
         (TWO, WRITES, Ok(b"0,1,1,0"), WRITTEN, CERTIFIED),
@@ -77,7 +77,7 @@ fn rows() -> &'static [Row] {
             Ok(b"== thread 0: ended\n== memory\n"),
             CERTIFIED,
         ),
-        // another order gives another report
+        // another order has another report
         (
             TWO,
             WRITES,
@@ -89,7 +89,7 @@ fn rows() -> &'static [Row] {
                 b"",
             ),
         ),
-        // a report that is as long
+        // a report of the same length
         (
             TWO,
             Ok(ADDS),
@@ -97,7 +97,7 @@ fn rows() -> &'static [Row] {
             Ok(b"== thread 0: ended\n== thread 1: ended\n== memory\nx = 3\n"),
             (5, b"line 4 differs\nsource: x = 2\nreport: x = 3\n", b""),
         ),
-        // reports that are cut off, after a line, in one, and before the end of the last one
+        // reports that are cut off: after a line, within one, and before the end of the last one
         (
             TWO,
             Ok(ADDS),
@@ -134,7 +134,7 @@ fn rows() -> &'static [Row] {
                 b"",
             ),
         ),
-        // reports with a line more, with a byte more
+        // reports with one more line, with one more byte
         (
             TWO,
             Ok(ADDS),
@@ -149,7 +149,7 @@ fn rows() -> &'static [Row] {
             Ok(b"== thread 0: ended\n== thread 1: ended\n== memory\nx = 2\n\n"),
             (5, b"line 6 differs\nsource ends\nreport: \n", b""),
         ),
-        // bytes that are no text
+        // bytes that are not text
         (
             TWO,
             Ok(ADDS),
@@ -161,7 +161,7 @@ fn rows() -> &'static [Row] {
                 b"",
             ),
         ),
-        // a thread ends after the others too
+        // a thread also ends after the others
         (
             TWO,
             Ok(ADDS),
@@ -173,9 +173,9 @@ fn rows() -> &'static [Row] {
                 b"",
             ),
         ),
-        // an entry more changes nothing where its thread has ended
+        // one more entry changes nothing if its thread has ended
         (TWO, Ok(ADDS), Ok(b"0,1,1,0,0"), ADDED, CERTIFIED),
-        // and something where it has not
+        // and changes something otherwise
         (
             TWO,
             WRITES,
@@ -183,7 +183,7 @@ fn rows() -> &'static [Row] {
             Ok(b"== thread 0: ended\n== thread 1: waits\n== memory\nx = 11\n"),
             (5, b"line 4 differs\nsource: x = 112\nreport: x = 11\n", b""),
         ),
-        // too few entries leave a thread that waits, and a report that says so is the one
+        // too few entries leave a thread that waits, and the report that says so is certified
         (
             TWO,
             Ok(ADDS),
@@ -202,7 +202,7 @@ fn rows() -> &'static [Row] {
             Ok(b"== thread 0: ended\n== thread 1: waits\n== memory\nx = 1\n"),
             CERTIFIED,
         ),
-        // so with ticks
+        // the same with ticks
         (
             SHORT,
             WRITES,
@@ -214,7 +214,7 @@ fn rows() -> &'static [Row] {
                 b"",
             ),
         ),
-        // a stranger, and what is no order
+        // a thread that does not exist, and a text that is not an order
         (
             TWO,
             Ok(ADDS),
@@ -254,7 +254,7 @@ fn rows() -> &'static [Row] {
                 b"txc: usage: bad --order-file\nan order is thread numbers between commas, blanks, tabs and ends of lines\n",
             ),
         ),
-        // the source is looked at before the order
+        // the source is checked before the order
         (
             TWO,
             Ok(b"int x;"),
@@ -262,7 +262,7 @@ fn rows() -> &'static [Row] {
             ADDED,
             (1, b"", b"txc: fault 28 at 1:7: no worker\n"),
         ),
-        // files that are not there
+        // files that do not exist
         (TWO, NONE, NONE, NONE, (2, b"", b"txc: cannot read a.c\n")),
         (
             TWO,
@@ -289,7 +289,7 @@ fn rows() -> &'static [Row] {
     &ROWS
 }
 
-/// What a command line is answered over three files: the status, and what is told.
+/// Answers a command line over three files. Returns the status and the standard error.
 fn answer<H: Threads + Wait + Clock + Sync, W: Write>(
     rt: &H,
     alloc: Global,
@@ -304,7 +304,7 @@ fn answer<H: Threads + Wait + Clock + Sync, W: Write>(
     }
 }
 
-/// Whether a row is answered as it should be.
+/// Whether a row has the expected answer.
 fn is_answered<H: Threads + Wait + Clock + Sync>(rt: &H, alloc: Global, row: &Row) -> bool {
     let (line, source, order, report, wanted) = *row;
     let files = ThreeFiles {
@@ -321,7 +321,7 @@ fn is_answered<H: Threads + Wait + Clock + Sync>(rt: &H, alloc: Global, row: &Ro
     status == wanted.0 && out.as_slice() == wanted.1 && told.bytes.as_slice() == wanted.2
 }
 
-/// The number, from 0, of the first row that is answered otherwise.
+/// The number of the first row with another answer, counted from 0.
 fn wrong_claim<H: Threads + Wait + Clock + Sync>(rt: &H, alloc: Global) -> Option<usize> {
     for (number, row) in rows().iter().enumerate() {
         if !is_answered(rt, alloc, row) {
@@ -336,7 +336,7 @@ fn reports_are_certified(rt: HostRuntime) {
     assert_eq!(rt; wrong_claim(&rt, rt.alloc()), None);
 }
 
-/// Command lines that are refused, and why.
+/// Command lines that are refused, and the reasons.
 fn wrong_words() -> &'static [(&'static str, &'static [u8])] {
     static ROWS: [(&str, &[u8]); 5] = [
         (
@@ -363,7 +363,7 @@ fn wrong_words() -> &'static [(&'static str, &'static [u8])] {
     &ROWS
 }
 
-/// The first command line that is told otherwise.
+/// The first command line with another report.
 fn told_otherwise<H: Threads + Wait + Clock + Sync>(rt: &H, alloc: Global) -> Option<&'static str> {
     let files = ThreeFiles {
         source: NONE,
@@ -389,7 +389,7 @@ fn standard_input_is_one_file(rt: HostRuntime) {
     assert_eq!(rt; told_otherwise(&rt, rt.alloc()), None);
 }
 
-/// What is answered where standard output takes nothing.
+/// The status if standard output takes nothing.
 fn answer_closed<H: Threads + Wait + Clock + Sync>(rt: &H, alloc: Global, report: Found) -> u8 {
     let files = ThreeFiles {
         source: Ok(ADDS),

@@ -8,7 +8,7 @@ const REFINES_ALONE: &str = "txc outcomes a.c --threads 1 --refines b.c";
 
 const EXPECTS: &str = "txc outcomes a.c --threads 2 --expect b.c";
 
-/// What each thread adds in one transaction, and in two.
+/// Each thread adds 2, in one transaction and in two.
 const WHOLE: &[u8] = b"int x; void worker(int self) { __transaction_atomic { x = x + 2; } }";
 
 const SPLIT: &[u8] =
@@ -21,7 +21,7 @@ const LAST: &[u8] = b"int x; void worker(int self) { __transaction_atomic { x = 
 const TRAPS: &[u8] =
     b"int x; void worker(int self) { int k; __transaction_atomic { k = x; x = 1; } k = 1 / k; }";
 
-/// Two locks, which two threads take in two orders.
+/// Two locks, which two threads take in opposite orders.
 const LOCKS: &[u8] = b"int locked[2], done;
 void take(int which) {
     int mine = 0;
@@ -33,7 +33,7 @@ void worker(int self) {
     __transaction_atomic { done = done + 1; locked[0] = 0; locked[1] = 0; }
 }";
 
-/// They take them in one order.
+/// The threads take the locks in the same order.
 const ORDERED: &[u8] = b"int locked[2], done;
 void take(int which) {
     int mine = 0;
@@ -45,14 +45,14 @@ void worker(int self) {
     __transaction_atomic { done = done + 1; locked[0] = 0; locked[1] = 0; }
 }";
 
-/// 17 transactions inside one another: an accepted program that has no code.
+/// 17 nested transactions: an accepted program that has no code.
 const DEEP: &[u8] =
     b"int x; void worker(int self) { __transaction_atomic { __transaction_atomic { __transaction_atomic { __transaction_atomic { __transaction_atomic { __transaction_atomic { __transaction_atomic { __transaction_atomic { __transaction_atomic { __transaction_atomic { __transaction_atomic { __transaction_atomic { __transaction_atomic { __transaction_atomic { __transaction_atomic { __transaction_atomic { __transaction_atomic { x = 1; } } } } } } } } } } } } } } } } } }";
 
 /// Programs that are compared with others.
 fn refined_rows() -> &'static [Row] {
     static ROWS: [Row; 19] = [
-        // two threads where no number is given
+        // two threads by default
         (
             "txc outcomes a.c --refines b.c",
             WHOLE,
@@ -66,7 +66,7 @@ fn refined_rows() -> &'static [Row] {
             ADDS,
             (0, b"== refines b.c: outcomes 1 of 1, threads: 2\n", b""),
         ),
-        // a split transaction shows more than a whole one, and all that this shows
+        // a split transaction has all outcomes of a whole one, and more
         (
             REFINES,
             WHOLE,
@@ -83,7 +83,7 @@ fn refined_rows() -> &'static [Row] {
                 b"",
             ),
         ),
-        // the first outcome is one, and the second is none
+        // the first outcome is allowed, and the second is not
         (
             REFINES,
             LAST,
@@ -94,7 +94,7 @@ fn refined_rows() -> &'static [Row] {
                 b"",
             ),
         ),
-        // more globals, in another order, and one that is missing
+        // more globals, in another order, and a missing one
         (
             REFINES,
             b"int x, y; void worker(int self) { __transaction_atomic { x = 1; y = self; } }",
@@ -111,7 +111,7 @@ fn refined_rows() -> &'static [Row] {
                 b"",
             ),
         ),
-        // globals of other names, another type, another length
+        // globals with other names, another type, another length
         (
             REFINES_ALONE,
             b"int x = 1, y = 2; void worker(int self) { }",
@@ -196,7 +196,7 @@ fn refined_rows() -> &'static [Row] {
                 b"",
             ),
         ),
-        // an order is stuck of the first program, of the second
+        // an order of the first program is stuck, of the second
         (
             REFINES,
             LOCKS,
@@ -228,10 +228,10 @@ fn outcomes_are_those_of_another_program(rt: HostRuntime) {
     assert_eq!(rt; wrong_row(&rt, rt.alloc(), refined_rows()), None);
 }
 
-/// Programs of which one is refused, or not walked to the end.
+/// Programs one of which is refused or not searched completely.
 fn refused_rows() -> &'static [Row] {
     static ROWS: [Row; 12] = [
-        // more states than may be looked at, of one or of the other
+        // more states than the limit, of one or of the other
         (
             "txc outcomes a.c --threads 2 --refines b.c --limit 3",
             LAST,
@@ -254,7 +254,7 @@ fn refused_rows() -> &'static [Row] {
                 b"",
             ),
         ),
-        // a turn without an end, of one or of the other
+        // a turn that never ends, of one or of the other
         (
             "txc outcomes a.c --threads 1 --refines b.c --steps 1000",
             b"int x; void worker(int self) { __transaction_atomic { x = 5; } while (1) { } }",
@@ -333,7 +333,7 @@ fn programs_are_compared_where_both_are_walked(rt: HostRuntime) {
 /// Programs that are compared with lists.
 fn expected_rows() -> &'static [Row] {
     static ROWS: [Row; 21] = [
-        // a list of another number of threads
+        // a list for another number of threads
         (
             "txc outcomes a.c --expect b.c",
             ADDS,
@@ -344,14 +344,14 @@ fn expected_rows() -> &'static [Row] {
                 b"",
             ),
         ),
-        // the list as it was printed
+        // the list as printed
         (
             EXPECTS,
             LAST,
             b"== outcome --order 0,1\n== thread 0: ended\n== thread 1: ended\n== memory\nx = 1\n== outcome --order 1,0\n== thread 0: ended\n== thread 1: ended\n== memory\nx = 0\n== outcomes: 2, stuck: 0, states: 5, threads: 2\n",
             (0, b"as expected\n", b""),
         ),
-        // one in which a thread traps, one with a stuck order
+        // a list in which a thread traps, one with a stuck order
         (
             EXPECTS,
             TRAPS,
@@ -370,7 +370,7 @@ fn expected_rows() -> &'static [Row] {
             b"== outcomes: 0, stuck: 0, states: 3, threads: 2, stopped at the limit\n",
             (4, b"", b"txc: a.c: as expected, stopped at the limit\n"),
         ),
-        // by a walk that was stopped at the states or at the steps no list is confirmed or refuted
+        // a search that stopped at its limit of states or of steps neither confirms nor refutes a list
         (
             "txc outcomes a.c --threads 2 --expect b.c --limit 3",
             LAST,
@@ -399,7 +399,7 @@ fn expected_rows() -> &'static [Row] {
             b"",
             (4, b"", b"txc: a.c: stopped at the steps\n"),
         ),
-        // a list of more states, of another program
+        // a list from more states, of another program
         (
             EXPECTS,
             LAST,
@@ -416,14 +416,14 @@ fn expected_rows() -> &'static [Row] {
             b"== outcome --order 0,1\n== thread 0: ended\n== thread 1: ended\n== memory\nx = 2\n== outcomes: 1, stuck: 0, states: 4, threads: 2\n",
             (5, b"line 5 differs\nexpected: x = 2\nfound: x = 1\n", b""),
         ),
-        // a value that is another, as long
+        // another value of the same length
         (
             EXPECTS,
             LAST,
             b"== outcome --order 0,1\n== thread 0: ended\n== thread 1: ended\n== memory\nx = 1\n== outcome --order 1,0\n== thread 0: ended\n== thread 1: ended\n== memory\nx = 2\n== outcomes: 2, stuck: 0, states: 5, threads: 2\n",
             (5, b"line 10 differs\nexpected: x = 2\nfound: x = 0\n", b""),
         ),
-        // a line more, one less, outcomes in the other order
+        // one more line, one less, outcomes in the opposite order
         (
             EXPECTS,
             LAST,
@@ -460,7 +460,7 @@ fn expected_rows() -> &'static [Row] {
                 b"",
             ),
         ),
-        // a list that is cut off, in a line, before the end of the last one, to nothing
+        // a list that is cut off: within a line, before the end of the last one, at the beginning
         (
             EXPECTS,
             LAST,

@@ -1,5 +1,5 @@
-//! The texts of standard error that are fixed: docs/COMMANDS.md lists them, and none of them changes. What is better told
-//! follows in a line behind, on a terminal or with `--verbose`.
+//! The fixed texts of standard error, which docs/COMMANDS.md lists. They never change. Better explanations follow on a
+//! line of their own, on a terminal or with `--verbose`.
 
 use crate::opened::{Found, NONE, REFUSED, REPLAY, Told, TwoFiles, answer_line};
 use crate::served::Closed;
@@ -9,8 +9,8 @@ use std::thread::Threads;
 use std::time::Clock;
 use test_serving::ADDS;
 
-/// A command line, what is found of the files `a.c` and `s.txt`, whether standard output is closed, the exit status, and
-/// what is told.
+/// A command line, the results of opening `a.c` and `s.txt`, whether standard output is closed, the exit status, and
+/// the standard error.
 type Row = (&'static str, Found, Found, bool, u8, &'static [u8]);
 
 const EMPTY: Found = Ok(b"void worker(int self) { }");
@@ -102,7 +102,7 @@ fn rows() -> &'static [Row] {
     &ROWS
 }
 
-/// Answers a row's command line, and tells what is wrong.
+/// Answers a row's command line, and writes its standard error.
 fn answer<H: Threads + Wait + Clock + Sync>(
     rt: &H,
     alloc: Global,
@@ -121,7 +121,7 @@ fn answer<H: Threads + Wait + Clock + Sync>(
     }
 }
 
-/// Whether a row's text is told, and nothing else, where standard error is no terminal.
+/// Whether a row's text, and nothing else, is reported if standard error is not a terminal.
 fn is_told<H: Threads + Wait + Clock + Sync>(rt: &H, alloc: Global, row: &Row) -> bool {
     let mut told = Told {
         bytes: Vec::new(alloc),
@@ -131,7 +131,7 @@ fn is_told<H: Threads + Wait + Clock + Sync>(rt: &H, alloc: Global, row: &Row) -
     status == Some(row.4) && told.bytes.as_slice() == row.5
 }
 
-/// The command line of the first row whose text is not told.
+/// The command line of the first row with another text.
 fn told_otherwise<H: Threads + Wait + Clock + Sync>(rt: &H, alloc: Global) -> Option<&'static str> {
     for row in rows() {
         if !is_told(rt, alloc, row) {

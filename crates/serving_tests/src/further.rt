@@ -1,17 +1,17 @@
-//! What `txc check` tells besides: warnings, and faults behind the first one.
+//! Further reports of `txc check`: warnings, and faults after the first one.
 
 use std::alloc::Global;
 use std::sync::Wait;
 use std::thread::Threads;
 use test_serving::{ServeResult, answers};
 
-/// A command line, the source, whether a terminal is there, and what is answered.
+/// A command line, the source, whether there is a terminal, and the answer.
 type Row = (&'static str, &'static [u8], bool, ServeResult<'static>);
 
-/// The rows stand in a function, so that no proof but its own looks at them.
+/// The rows are in a function, so that only its own proof evaluates them.
 fn rows() -> &'static [Row] {
     static ROWS: [Row; 18] = [
-        // nothing is told where nobody asks and no terminal is there
+        // nothing is reported without a request or a terminal
         (
             "txc check a.c",
             b"int x; void worker(int self) { int f; __transaction_atomic { f = x > 0; } if (f) { __transaction_atomic { x = x - 1; } } }",
@@ -80,7 +80,7 @@ fn rows() -> &'static [Row] {
                 b"{\"file\":\"a.c\",\"line\":1,\"column\":66,\"end_line\":1,\"end_column\":67,\"warning\":\"stale-read\",\"message\":\"a later transaction relies on this value, which another thread may have changed\",\"other_line\":1,\"other_column\":107,\"other_end_line\":1,\"other_end_column\":108,\"notes\":[\"the write is at 1:107\",\"read it again in the transaction that writes; txc outcomes shows what can go wrong\"]}\n",
             ),
         ),
-        // other commands tell nothing
+        // other commands report nothing
         (
             "txc source a.c --order 0,0",
             b"int x; void worker(int self) { int f; __transaction_atomic { f = x > 0; } if (f) { __transaction_atomic { x = x - 1; } } }",
@@ -98,7 +98,7 @@ fn rows() -> &'static [Row] {
                 b"txc: warning empty-if at 1:29: this if does nothing\ntxc: warning empty-if at 1:41: this if does nothing\ntxc: warning empty-if at 1:53: this if does nothing\ntxc: warning empty-if at 1:65: this if does nothing\ntxc: warning empty-if at 1:77: this if does nothing\ntxc: warning empty-if at 1:89: this if does nothing\ntxc: warning empty-if at 1:101: this if does nothing\ntxc: warning empty-if at 1:113: this if does nothing\ntxc: warning empty-if at 1:125: this if does nothing\ntxc: warning empty-if at 1:137: this if does nothing\ntxc: warning empty-if at 1:149: this if does nothing\ntxc: warning empty-if at 1:161: this if does nothing\ntxc: warning empty-if at 1:173: this if does nothing\ntxc: warning empty-if at 1:185: this if does nothing\ntxc: warning empty-if at 1:197: this if does nothing\ntxc: warning empty-if at 1:209: this if does nothing\ntxc: warning empty-if at 1:221: this if does nothing\ntxc: warning empty-if at 1:233: this if does nothing\ntxc: warning empty-if at 1:245: this if does nothing\ntxc: warning empty-if at 1:257: this if does nothing\ntxc: warnings: 20, and 2 more\n",
             ),
         ),
-        // faults behind the first one
+        // faults after the first one
         (
             "txc check a.c",
             b"int x; void worker(int self) { y = 1; x = 1; }",
@@ -175,7 +175,7 @@ fn rows() -> &'static [Row] {
     &ROWS
 }
 
-/// The number of the first row that is answered otherwise, and its command line.
+/// The number of the first row with another answer, and its command line.
 fn told_otherwise<H: Threads + Wait + Sync>(
     rt: &H,
     alloc: Global,

@@ -1,4 +1,4 @@
-//! Hostile use: each growth of what is answered refused in turn, and threads that are not started.
+//! Hostile environments: each allocation of a request fails in turn, or threads are not started.
 
 use command::{Format, Request, Task};
 use serving::{Detail, Teller, serve_alone};
@@ -7,7 +7,7 @@ use std::str;
 use test_memory::{Refusing, growths};
 use test_serving::{ServeResult, Served, is_answer, request_of};
 
-/// A transaction in another one is cancelled, and what it has read is compared still.
+/// A nested transaction is cancelled, and its reads are still validated.
 const CANCELS: &[u8] =
     b"int f, g = 1, h; void worker(int self) { if (self == 0) { __transaction_atomic { f = 1; h = 1; } } else { \
 __transaction_atomic { __transaction_atomic { if (f == 0) { g = 9; __transaction_cancel; } g = 5; } g = g + h; } } }";
@@ -16,7 +16,7 @@ __transaction_atomic { __transaction_atomic { if (f == 0) { g = 9; __transaction
 const PRINTS: &[u8] =
     b"int x; void worker(int self) { __transaction_relaxed { x = x + 1; printf(\"%d\\n\", x); } }";
 
-/// Thread 0 makes 64 frames, and thread 1 is trapped at the 65th.
+/// Thread 0 has 64 frames, and thread 1 traps at the 65th.
 const CALLS: &[u8] =
     b"void down(int k) { if (k > 0) down(k - 1); } void worker(int self) { down(62 + self); }";
 
@@ -89,7 +89,7 @@ fn hostile_lines() -> &'static [Asked] {
     &ASKED
 }
 
-/// What is answered to a task, in memory of this allocator; what it writes lies in memory of its own.
+/// The answer to a task with memory from this allocator. The output is stored in other memory.
 fn served_alone(
     alloc: &Refusing<Global>,
     inner: Global,
@@ -105,7 +105,7 @@ fn served_alone(
     Served { status, out, err }
 }
 
-/// Whether a report is whole and tells of a step that was refused memory.
+/// Whether a report is complete and shows a step in which an allocation failed.
 fn is_stopped(served: &Served) -> bool {
     match str::from_utf8(served.out.as_slice()) {
         Ok(report) => {
@@ -116,14 +116,14 @@ fn is_stopped(served: &Served) -> bool {
     }
 }
 
-/// Whether want of memory is told, with nothing else, or by a whole report.
+/// Whether an allocation failure is reported, either alone or by a complete report.
 fn gives_up(served: &Served) -> bool {
     let is_told = is_answer(served, (4, b"", b"txc: out of memory\n"));
     is_told || served.status == 4 && is_stopped(served)
 }
 
-/// Whether this is answered, or growth `nth` is met, want of memory is told, and this is answered to the same task
-/// then. It may be answered where the growth is met too: not every growth that is asked for has to be made.
+/// Whether this is the answer; or allocation `nth` fails, the failure is reported, and the next answer to the same task
+/// is this. The answer may also be given despite the failure, since not every allocation is necessary.
 fn tells(
     alloc: &Refusing<Global>,
     nth: u64,
@@ -143,7 +143,7 @@ fn tells(
     is_answer(&served_alone(alloc, inner, task, files.0, files.1), wanted)
 }
 
-/// How many growths a task makes, each of which is refused once.
+/// The number of allocations of a task. Each of them fails once.
 fn growths_of(inner: Global, task: &Task, source: &[u8], schedule: &[u8]) -> Result<u64, u64> {
     let whole = served_alone(&Refusing::new(inner, 0), inner, task, source, schedule);
     let wanted = (whole.status, whole.out.as_slice(), whole.err.as_slice());
@@ -152,7 +152,7 @@ fn growths_of(inner: Global, task: &Task, source: &[u8], schedule: &[u8]) -> Res
     })
 }
 
-/// How many growths the task of a command line makes, each of which is refused once.
+/// The number of allocations of the task of a command line. Each of them fails once.
 fn growths_of_line(alloc: Global, asked: &Asked) -> Result<u64, u64> {
     match request_of(alloc, asked.0) {
         Ok(Request::Program { task, .. }) => growths_of(alloc, &task, asked.1, asked.2),
@@ -160,7 +160,7 @@ fn growths_of_line(alloc: Global, asked: &Asked) -> Result<u64, u64> {
     }
 }
 
-/// The first command line that makes few growths, or tells one otherwise, and how many they are or which.
+/// The first command line with few allocations or with a wrong answer, and how many or which.
 fn told_otherwise(alloc: Global) -> Option<(&'static str, Result<u64, u64>)> {
     for asked in hostile_lines() {
         let met = growths_of_line(alloc, asked);
@@ -176,7 +176,7 @@ fn each_growth_of_an_answer_is_refused_once(rt: HostRuntime) {
     assert_eq!(rt; told_otherwise(rt.alloc()), None);
 }
 
-/// The first growth of a task whose refusal leaves a report in which a step was not made.
+/// The first allocation of a task whose failure leaves a report in which a step was not made.
 fn first_stopped(alloc: Global, task: &Task, source: &[u8], schedule: &[u8]) -> Option<u64> {
     let met = growths(alloc, 5000, |refusing, nth| {
         refusing.refuse(nth);
@@ -185,7 +185,7 @@ fn first_stopped(alloc: Global, task: &Task, source: &[u8], schedule: &[u8]) -> 
     met.err()
 }
 
-/// Whether there is one in the replay of a command line.
+/// Whether the replay of a command line has such an allocation.
 fn stops(alloc: Global, asked: &Asked) -> bool {
     match request_of(alloc, asked.0) {
         Ok(Request::Program { task, .. }) => {
@@ -202,7 +202,7 @@ fn a_step_that_is_refused_memory_is_told_in_a_report(rt: HostRuntime) {
     assert!(rt; stops(rt.alloc(), &(replay, CANCELS, schedule)));
 }
 
-/// What is answered to `run` where no thread is started.
+/// The answer to `run` if no thread is started.
 fn run_alone(inner: Global) -> Option<Served> {
     match request_of(inner, "txc run a.c --threads 2") {
         Ok(Request::Program { task, .. }) => {

@@ -1,4 +1,4 @@
-//! What is read of the files that a request names.
+//! The parts that are read of the files that a request names.
 
 use crate::opened::{REPLAY, Told};
 use serving::Files;
@@ -10,13 +10,13 @@ use std::thread::Threads;
 use std::time::Clock;
 use system::serve_words;
 
-/// What a file gives.
+/// The contents of a file.
 #[derive(Drop)]
 enum Gives {
     Bytes(&'static [u8]),
-    /// Blanks without end.
+    /// An infinite number of blanks.
     Blanks,
-    /// So many blanks.
+    /// This many blanks.
     SomeBlanks(usize),
     /// An error at the first read.
     Error,
@@ -85,7 +85,7 @@ fn read_for<H: Threads + Wait + Clock + Sync>(
     Some((answer.status, told.bytes, counts))
 }
 
-/// Whether a command line is answered so.
+/// Whether a command line has this answer.
 fn reads<H: Threads + Wait + Clock + Sync>(
     rt: &H,
     alloc: Global,

@@ -1,4 +1,4 @@
-//! Large inputs and broken ones: each is answered, and none for want of something.
+//! Large inputs and invalid ones: each gets an answer, and no resource runs out.
 
 use crate::refusals::text_of_pieces;
 use std::alloc::{AllocError, Global};
@@ -6,10 +6,10 @@ use std::sync::Wait;
 use std::thread::Threads;
 use test_serving::{ServeResult, Served, answers, serve_line};
 
-/// A text in pieces, each so many times.
+/// A text in pieces, each with a number of repetitions.
 type Pieces = &'static [(&'static str, usize)];
 
-/// Texts in pieces, and what `txc check` answers to them.
+/// Texts in pieces, and the answers of `txc check`.
 fn checks() -> &'static [(Pieces, ServeResult<'static>)] {
     static ROWS: [(Pieces, ServeResult<'static>); 14] = [
         // as many tokens as a text can have
@@ -29,7 +29,7 @@ fn checks() -> &'static [(Pieces, ServeResult<'static>)] {
             ],
             (0, b"accepted\n", b""),
         ),
-        // the most bytes, and one more, behind a transaction and behind nothing
+        // the most bytes, and one more, with a transaction and without one
         (
             &[
                 (
@@ -58,7 +58,7 @@ fn checks() -> &'static [(Pieces, ServeResult<'static>)] {
             &[("void worker(int self) { }", 1), (" ", 1_048_552)],
             (1, b"", b"txc: fault 05 at 1:1: file too long\n"),
         ),
-        // the deepest, and one more
+        // the greatest depth, and one more
         (
             &[
                 ("void worker(int self) { ", 1),
@@ -104,7 +104,7 @@ fn checks() -> &'static [(Pieces, ServeResult<'static>)] {
     &ROWS
 }
 
-/// Whether `txc check` answers a text in pieces so.
+/// Whether `txc check` has this answer to a text in pieces.
 fn is_checked<H: Threads + Wait + Sync>(
     rt: &H,
     alloc: Global,
@@ -120,7 +120,7 @@ fn is_checked<H: Threads + Wait + Sync>(
     }
 }
 
-/// The number, from 0, of the first text that is answered otherwise.
+/// The number of the first text with another answer, counted from 0.
 fn not_checked<H: Threads + Wait + Sync>(rt: &H, alloc: Global) -> Option<usize> {
     for (number, (pieces, wanted)) in checks().iter().enumerate() {
         if !is_checked(rt, alloc, pieces, *wanted) {
@@ -135,7 +135,7 @@ fn the_largest_sources_are_checked(rt: HostRuntime) {
     assert_eq!(rt; not_checked(&rt, rt.alloc()), None);
 }
 
-/// What is served to a command line with a text in pieces.
+/// The answer to a command line with a text in pieces.
 fn answer_of<H: Threads + Wait + Sync>(
     rt: &H,
     alloc: Global,
@@ -148,7 +148,7 @@ fn answer_of<H: Threads + Wait + Sync>(
     }
 }
 
-/// Whether so much is printed, with status 0, and it ends so.
+/// Whether this many bytes are printed, with this end and the status 0.
 fn prints<H: Threads + Wait + Sync>(
     rt: &H,
     alloc: Global,
@@ -165,7 +165,7 @@ fn prints<H: Threads + Wait + Sync>(
     }
 }
 
-/// Statements whose code is listed in more than a megabyte.
+/// Statements whose code has a listing of more than a megabyte.
 const LISTED: Pieces = &[
     ("int x; void worker(int self) { __transaction_atomic { ", 1),
     ("x=x*x+1;", 20_000),
@@ -200,7 +200,7 @@ fn a_megabyte_is_printed(rt: HostRuntime) {
     );
 }
 
-/// A program of so many functions, which `worker` calls, and which print.
+/// A program of this many functions, which `worker` calls, and which print.
 fn of_functions(alloc: Global, count: u32) -> Result<String, AllocError> {
     let mut text = String::new(alloc);
     for number in 0..count {
@@ -216,7 +216,7 @@ fn of_functions(alloc: Global, count: u32) -> Result<String, AllocError> {
     Ok(text)
 }
 
-/// What so many functions print, each its number.
+/// The output of this many functions, each of which prints its number.
 fn printed_by(alloc: Global, count: u32) -> Result<String, AllocError> {
     let mut text = String::from_str(alloc, "== thread 0: ended\n")?;
     for number in 0..count {
@@ -226,7 +226,7 @@ fn printed_by(alloc: Global, count: u32) -> Result<String, AllocError> {
     Ok(text)
 }
 
-/// Whether a program of so many functions runs, each called once.
+/// Whether a program of this many functions runs and calls each once.
 fn functions_run<H: Threads + Wait + Sync>(rt: &H, alloc: Global, count: u32) -> bool {
     match (of_functions(alloc, count), printed_by(alloc, count)) {
         (Ok(source), Ok(report)) => answers(
@@ -247,12 +247,12 @@ fn two_thousand_functions_and_texts_run(rt: HostRuntime) {
     assert!(rt; functions_run(&rt, rt.alloc(), 2_000));
 }
 
-/// The beginning of names that all have one hash, where a hash multiplies eight bytes by eight with a constant and no
-/// key: behind it one factor is 0.
+/// A prefix of names that all have the same hash if a hash multiplies eight bytes by eight with a constant and no
+/// key: after this prefix one factor is 0.
 const COLLIDING: &str = "aaaaaaaaaaaaassTNo3qMD1o";
 
-/// A function with 31,000 locals, whose names begin so and end in their numbers, and with one more, whose number this
-/// is.
+/// A function with 31,000 locals, whose names have this prefix and end in their numbers, and with one more, which has
+/// this number.
 fn of_locals(alloc: Global, beginning: &str, last: u32) -> Result<String, AllocError> {
     let mut text = String::from_str(alloc, "void worker(int self) { int x")?;
     for number in 0..31_000u32 {
@@ -262,8 +262,8 @@ fn of_locals(alloc: Global, beginning: &str, last: u32) -> Result<String, AllocE
     Ok(text)
 }
 
-/// Whether this is what `txc check` answers to a function with 31,000 locals, whose names begin so, and one more, whose
-/// number this is.
+/// Whether this is the answer of `txc check` to a function with 31,000 locals, whose names have this prefix, and one
+/// more, which has this number.
 fn locals_are_checked<H: Threads + Wait + Sync>(
     rt: &H,
     alloc: Global,
@@ -290,7 +290,7 @@ fn colliding_names_are_checked(rt: HostRuntime) {
     assert!(rt; locals_are_checked(&rt, alloc, COLLIDING, 30_999, (1, b"", told)));
 }
 
-/// A function with so many locals, and as many assignments to the oldest one.
+/// A function with this many locals, and as many assignments to the oldest one.
 fn of_uses(alloc: Global, count: u32) -> Result<String, AllocError> {
     let mut text = String::from_str(alloc, "void worker(int self) { int z")?;
     for number in 1..count {
@@ -302,8 +302,8 @@ fn of_uses(alloc: Global, count: u32) -> Result<String, AllocError> {
     Ok(text)
 }
 
-/// The listing of a function with so many locals, and as many assignments to the oldest one: each local begins with 0,
-/// and the oldest one has register 1.
+/// The listing of a function with this many locals, and as many assignments to the oldest one: each local begins with
+/// 0, and the oldest one has register 1.
 fn listing_of_uses(alloc: Global, count: u32) -> Result<String, AllocError> {
     let registers = count.saturating_add(1);
     let mut text = format!(in alloc; "function worker registers {registers}\n")?;
@@ -319,7 +319,7 @@ fn listing_of_uses(alloc: Global, count: u32) -> Result<String, AllocError> {
     Ok(text)
 }
 
-/// Whether a function with so many locals, and as many assignments to the oldest one, has its listing.
+/// Whether a function with this many locals, and as many assignments to the oldest one, has its listing.
 fn uses_are_listed<H: Threads + Wait + Sync>(rt: &H, alloc: Global, count: u32) -> bool {
     match (of_uses(alloc, count), listing_of_uses(alloc, count)) {
         (Ok(source), Ok(listing)) => answers(
@@ -340,18 +340,18 @@ fn sixty_thousand_uses_of_the_oldest_local_are_listed(rt: HostRuntime) {
     assert!(rt; uses_are_listed(&rt, rt.alloc(), 60_000));
 }
 
-/// Each thread adds one, so many times.
+/// Each thread adds one 1000 times.
 const COUNTS: &[u8] =
     b"int x; void worker(int self) { int i; for (i = 0; i < 1000; i++) __transaction_atomic { x = x + 1; } }";
 
-/// A command line with an order of so many turns, thread 0 and 1 by turns.
+/// A command line with an order of this many turns, in which threads 0 and 1 alternate.
 fn line_of_turns(alloc: Global, turns: usize) -> Result<String, AllocError> {
     let mut line = String::from_str(alloc, "txc source a.c --threads 2 --order 0")?;
     line.push_str(",1,0".repeat(alloc, turns / 2)?.as_str())?;
     Ok(line)
 }
 
-/// Whether an order of so many turns is answered so.
+/// Whether an order of this many turns has this answer.
 fn turns_give<H: Threads + Wait + Sync>(
     rt: &H,
     alloc: Global,
@@ -385,7 +385,7 @@ fn long_orders_are_answered(rt: HostRuntime) {
 /// Each thread adds one.
 const ADDS: &[u8] = b"int x; void worker(int self) { __transaction_atomic { x = x + 1; } }";
 
-/// Whether so many threads each add one.
+/// Whether this many threads each add one.
 fn threads_add<H: Threads + Wait + Sync>(rt: &H, alloc: Global, threads: u32) -> bool {
     let Ok(line) = format!(in alloc; "txc run a.c --threads {threads}") else {
         return false;
@@ -415,7 +415,7 @@ fn every_number_of_threads_runs(rt: HostRuntime) {
     assert_eq!(rt; threads_that_do_not_add(&rt, rt.alloc()), None);
 }
 
-/// A schedule of so many threads, one behind the other, each to its end, the last one first.
+/// A schedule that runs this many threads one after another, each to its end, the last one first.
 fn schedule_of(alloc: Global, threads: u32) -> Result<String, AllocError> {
     let mut schedule = String::new(alloc);
     for number in 0..threads {
@@ -425,7 +425,7 @@ fn schedule_of(alloc: Global, threads: u32) -> Result<String, AllocError> {
     Ok(schedule)
 }
 
-/// What the replay of that schedule reports: each thread commits behind six accesses.
+/// The report of the replay of that schedule: each thread commits after six accesses.
 fn replay_of(alloc: Global, threads: u32) -> Result<String, AllocError> {
     let mut report = String::from_str(alloc, "== events\n")?;
     for number in 0..threads {
@@ -440,7 +440,7 @@ fn replay_of(alloc: Global, threads: u32) -> Result<String, AllocError> {
     Ok(report)
 }
 
-/// Whether a replay of so many threads that each add one is reported so.
+/// Whether a replay of this many threads that each add one has this report.
 fn threads_add_in_a_replay<H: Threads + Wait + Sync>(rt: &H, alloc: Global, threads: u32) -> bool {
     let Ok(line) = format!(in alloc; "txc replay a.c --threads {threads} --schedule s.txt") else {
         return false;
@@ -477,14 +477,14 @@ fn every_number_of_threads_is_replayed(rt: HostRuntime) {
     assert_eq!(rt; threads_that_do_not_add_in_a_replay(&rt, rt.alloc()), None);
 }
 
-/// A program with all kinds of statements, whose beginnings are checked.
+/// A program with all kinds of statements, whose prefixes are checked.
 const WHOLE: &[u8] =
     b"int f, g = 1, h; void worker(int self) { if (self == 0) { __transaction_atomic { f = 1; h = 1; } } else { __transaction_atomic { __transaction_atomic { if (f == 0) { g = 9; __transaction_cancel; } g = 5; } g = g + h; } } }";
 
-/// How many beginnings are accepted, and how many are refused with 10, 12 and 28.
+/// How many prefixes are accepted, and how many are refused with 10, 12 and 28.
 type Counts = (u32, u32, u32, u32);
 
-/// Counts one more answer of a check; there is none where it is another one.
+/// Counts one more answer of a check. Returns none for any other answer.
 fn count_answer(counts: Counts, served: &Served) -> Option<Counts> {
     let err = served.err.as_slice();
     let (accepted, unexpected, unfinished, no_worker) = counts;
@@ -503,7 +503,7 @@ fn count_answer(counts: Counts, served: &Served) -> Option<Counts> {
     }
 }
 
-/// How the beginnings of a source are answered, all of them.
+/// The answers to all prefixes of a source.
 fn beginnings<H: Threads + Wait + Sync>(rt: &H, alloc: Global, source: &[u8]) -> Option<Counts> {
     let mut counts = (0, 0, 0, 0);
     for length in 0..source.len().saturating_add(1) {

@@ -1,4 +1,4 @@
-//! Tests of requests that are served, in a crate of their own: a crate with tests is proved twice.
+//! Tests of served requests. They are in a crate of their own, since a crate with tests is proved twice.
 #![tactic(auto)]
 
 #[cfg(test)]

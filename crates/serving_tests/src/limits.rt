@@ -1,4 +1,4 @@
-//! Memory and steps that have a limit, and what is shown on the way there.
+//! Limits of memory and steps, and the reports before they are reached.
 
 use std::process::Abort;
 use test_serving::{Row, answers, wrong_row};
@@ -7,20 +7,20 @@ use test_serving::{Row, answers, wrong_row};
 const TWICE: &[u8] =
     b"int x; void worker(int self) { int t; __transaction_atomic { t = x; } __transaction_atomic { x = t + 1; } }";
 
-/// Prints before a loop that takes more than 2^20 steps, and behind it.
+/// Prints before and after a loop that takes more than 2^20 steps.
 const PRINTS: &[u8] =
     b"void worker(int self) { int i; printf(\"a\"); for (i = 0; i < 600000; i++) ; printf(\"b\"); }";
 
-/// Waits in a transaction for what no other thread can change.
+/// Waits in a transaction for a change that no other thread can make.
 const WAITS: &[u8] = b"int x; void worker(int self) { __transaction_atomic { while (x == 0) ; } }";
 
-/// Comes to ten states.
+/// Reaches ten states.
 const TEN: &[u8] =
     b"int a[4000]; void worker(int self) { int i; for (i = 0; i < 9; i++) { __transaction_atomic { a[i] = 1; } } }";
 
 fn rows() -> &'static [Row] {
     static ROWS: [Row; 7] = [
-        // a walk goes on from its first state before it is asked whether there is memory
+        // a search continues from its first state before it checks its memory
         (
             "txc outcomes a.c --threads 2 --memory 0",
             TWICE,
@@ -111,7 +111,7 @@ fn it_is_told_what_lets_a_walk_go_on(rt: HostRuntime) {
     assert!(rt; answers(&rt, alloc, line, TWICE, b"", true, at_memory));
 }
 
-/// A run of 20,000,000 steps shows where it is once, and takes the line away.
+/// A run of 20,000,000 steps shows its progress once, and clears the line.
 #[test]
 fn a_run_shows_how_far_it_is(rt: HostRuntime) {
     let line = "txc run a.c --budget 20000000";

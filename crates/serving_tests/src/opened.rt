@@ -1,4 +1,4 @@
-//! Which files are opened for the words of a command line, and what is said of those that are not.
+//! The files that are opened for the words of a command line, and the reports about those that are not.
 
 use serving::Files;
 use std::alloc::Global;
@@ -10,10 +10,10 @@ use std::time::Clock;
 use system::serve_words;
 use test_serving::{ADDS, ServeResult};
 
-/// What is found of a file's name: the bytes of the file, or why it is not opened.
+/// The result of opening a file: its bytes, or the reason why it is not opened.
 pub(crate) type Found = Result<&'static [u8], ErrorKind>;
 
-/// The two files that there are.
+/// The two files.
 #[derive(Drop)]
 pub(crate) struct TwoFiles {
     /// The file `a.c`.
@@ -77,7 +77,7 @@ impl IsTerminal for Told {
     }
 }
 
-/// A command line, what is found of its two files, whether standard error is a terminal, and what is answered.
+/// A command line, the results of opening its two files, whether standard error is a terminal, and the answer.
 type Row = (&'static str, Found, Found, bool, ServeResult<'static>);
 
 pub(crate) const REPLAY: &str = "txc replay a.c --threads 2 --schedule s.txt";
@@ -96,7 +96,7 @@ const OUT_OF_MEMORY: ServeResult<'static> = (4, b"", b"txc: out of memory\n");
 
 fn rows() -> &'static [Row] {
     static ROWS: [Row; 34] = [
-        // words that make no request open no file
+        // invalid words open no file
         (
             "txc run a.c --threads 65",
             REFUSED,
@@ -119,7 +119,7 @@ fn rows() -> &'static [Row] {
             false,
             (2, b"", b"txc: cannot read a.c\n"),
         ),
-        // for editors
+        // reports for editors
         (
             "txc check a.c --format json",
             NONE,
@@ -185,7 +185,7 @@ fn rows() -> &'static [Row] {
                 b"",
             ),
         ),
-        // a task with no schedule opens none
+        // a task without a schedule opens none
         (
             RUN,
             Ok(ADDS),
@@ -200,7 +200,7 @@ fn rows() -> &'static [Row] {
             false,
             (0, b"== events\n== thread 0: ended\n== memory\n", b""),
         ),
-        // the line of a fault follows it on a terminal
+        // the source line follows a fault on a terminal
         (
             RUN,
             Ok(b"int x;"),
@@ -219,7 +219,7 @@ fn rows() -> &'static [Row] {
             false,
             (1, b"", b"txc: fault 28 at 1:7: no worker\n"),
         ),
-        // what outcomes are compared with is opened before the source is read
+        // the other file of a comparison is opened before the source is read
         (
             REFINES,
             NONE,
@@ -321,7 +321,7 @@ fn rows() -> &'static [Row] {
                 b"txc: they differ only in the last line end\n",
             ),
         ),
-        // if a search has no time, it ends after the turns of its first state, and so does a range
+        // if a search has no time, it ends after the turns of its first state, and so does the search for a range
         (
             "txc outcomes a.c --threads 2..3 --time 0",
             Ok(ADDS),
@@ -388,7 +388,7 @@ fn rows() -> &'static [Row] {
             false,
             (0, b"== refines s.txt: outcomes 1 of 1, threads: 1\n", b""),
         ),
-        // it is said whose fault it is
+        // the file of the fault is named
         (
             REFINES,
             Ok(ADDS),
@@ -404,8 +404,8 @@ fn rows() -> &'static [Row] {
     &ROWS
 }
 
-/// Answers a command line, in which a space ends each word but the last. Gives the exit status, if there was memory for
-/// the words.
+/// Answers a command line, in which a space ends each word but the last. Returns the exit status, unless an allocation
+/// failed for the words.
 pub(crate) fn answer_line<H: Threads + Wait + Clock + Sync, W: Write>(
     rt: &H,
     alloc: Global,
@@ -418,7 +418,7 @@ pub(crate) fn answer_line<H: Threads + Wait + Clock + Sync, W: Write>(
     Some(serve_words(rt, alloc, words.as_slice(), files, out, told).status)
 }
 
-/// Whether a row is answered as it should be.
+/// Whether a row has the expected answer.
 fn is_answered<H: Threads + Wait + Clock + Sync>(rt: &H, alloc: Global, row: &Row) -> bool {
     let (line, source, schedule, is_terminal, wanted) = *row;
     let files = TwoFiles { source, schedule };
@@ -431,7 +431,7 @@ fn is_answered<H: Threads + Wait + Clock + Sync>(rt: &H, alloc: Global, row: &Ro
     status == Some(wanted.0) && out.as_slice() == wanted.1 && told.bytes.as_slice() == wanted.2
 }
 
-/// The number, from 0, of the first row that is answered otherwise.
+/// The number of the first row with another answer, counted from 0.
 fn wrong_files<H: Threads + Wait + Clock + Sync>(rt: &H, alloc: Global) -> Option<usize> {
     for (number, row) in rows().iter().enumerate() {
         if !is_answered(rt, alloc, row) {
@@ -446,7 +446,7 @@ fn files_are_opened_in_turn(rt: HostRuntime) {
     assert_eq!(rt; wrong_files(&rt, rt.alloc()), None);
 }
 
-/// Whether a command line prints what begins so, and nothing is told.
+/// Whether a command line prints an output with this prefix, and reports nothing.
 fn begins_with<H: Threads + Wait + Clock + Sync>(
     rt: &H,
     alloc: Global,

@@ -1,5 +1,5 @@
-//! Where a trap is told to have come, and where threads are told to stand that go no further: of a trap, at every kind
-//! of operand, the place of the innermost expression that could not be computed.
+//! The reported places of traps and of threads that stopped. The place of a trap, at every kind of operand, is the
+//! innermost expression that could not be computed.
 
 mod calls;
 mod changes;
@@ -15,15 +15,15 @@ use std::sync::Wait;
 use std::thread::Threads;
 use test_serving::{Served, is_answer, serve_line};
 
-/// A source, and what is told behind its report.
+/// A source, and the text reported after its report.
 pub(crate) type Told = (&'static [u8], &'static [u8]);
 
-/// Whether one report is told to a terminal and elsewhere.
+/// Whether a terminal and another output get the same report.
 fn is_one_report(shown: &Served, bare: &Served) -> bool {
     is_answer(bare, (shown.status, shown.out.as_slice(), b""))
 }
 
-/// Whether this is told behind the report of a command line, on a terminal, and nothing of it elsewhere.
+/// Whether this text follows the report of a command line on a terminal, and none of it elsewhere.
 fn is_told<H: Threads + Wait + Sync>(
     rt: &H,
     alloc: Global,
@@ -41,7 +41,7 @@ fn is_told<H: Threads + Wait + Sync>(
     }
 }
 
-/// How many lines these are.
+/// The number of lines.
 fn count_lines(text: &[u8]) -> usize {
     let mut lines: usize = 0;
     for byte in text {
@@ -52,14 +52,14 @@ fn count_lines(text: &[u8]) -> usize {
     lines
 }
 
-/// Whether this is told behind a line that names an order.
+/// Whether this text follows a line that names an order.
 fn is_of_order(shown: &[u8], told: &[u8]) -> bool {
     shown.starts_with(b"txc: with --order ")
         && shown.ends_with(told)
         && count_lines(shown) == count_lines(told).saturating_add(1)
 }
 
-/// Whether this is told of one order behind the outcomes of a source, on a terminal, and nothing of it elsewhere.
+/// Whether this text about one order follows the outcomes of a source on a terminal, and none of it elsewhere.
 fn is_told_of_outcomes<H: Threads + Wait + Sync>(
     rt: &H,
     alloc: Global,
@@ -83,7 +83,7 @@ fn is_told_of_outcomes<H: Threads + Wait + Sync>(
     }
 }
 
-/// What tells of a trap: of a run, of a replay and of the source.
+/// Command lines that report a trap: of a run, of a replay and of the source.
 fn lines() -> &'static [&'static str] {
     static LINES: [&str; 3] = [
         "txc run a.c",
@@ -93,8 +93,8 @@ fn lines() -> &'static [&'static str] {
     &LINES
 }
 
-/// The first of these sources of which a run, a replay, the source or its outcomes tell something else: its number,
-/// from 0, and the command line.
+/// The first of these sources whose run, replay, order or outcomes have another report: its number, counted from 0, and
+/// the command line.
 fn wrong_trap<H: Threads + Wait + Sync>(
     rt: &H,
     alloc: Global,
@@ -158,19 +158,19 @@ const LOOP: &[u8] = b"void worker(int self) {\n    while (1)\n        ;\n}\n";
 const TWICE: &[u8] =
     b"int x; void worker(int self) { __transaction_atomic { x = 1; } __transaction_atomic { x = 2; } }";
 
-/// Each thread waits for what none does.
+/// Each thread waits for a change that no thread makes.
 const WAITS: &[u8] =
     b"int flag;\nvoid worker(int self) {\n    int ok = 0;\n    while (!ok)\n        __transaction_atomic { ok = flag; }\n}\n";
 
-/// Thread 1 traps, by who was first in one place or another.
+/// Thread 1 traps, depending on which thread was first, in one of two places.
 const EITHER: &[u8] =
     b"int x;\nvoid worker(int self) {\n    int z = 0, first;\n    __transaction_atomic { first = x == 0; if (first) x = 1 + self; }\n    if (self) {\n        if (first) z = 1 / z; else z = 2 % z;\n    }\n}\n";
 
-/// Each thread traps, by who was first in one place or another.
+/// Each thread traps, depending on which thread was first, in one of two places.
 const BOTH: &[u8] =
     b"int x;\nvoid worker(int self) {\n    int z = 0, first;\n    __transaction_atomic { first = x == 0; if (first) x = 1 + self; }\n    if (first) z = 1 / z; else z = 2 % z;\n}\n";
 
-/// Command lines after which threads trapped, go no further or would go on, and what is told.
+/// Command lines after which threads have trapped, have stopped or could continue, and the reports.
 fn ends() -> &'static [(&'static str, &'static [u8], &'static [u8])] {
     static ROWS: [(&str, &[u8], &[u8]); 9] = [
         (
@@ -178,7 +178,7 @@ fn ends() -> &'static [(&'static str, &'static [u8], &'static [u8])] {
             LOOP,
             b"txc: thread 0: its steps are used up at 2:12\n    while (1)\n           ^\n",
         ),
-        // what several threads stand at is shown once
+        // the line of several threads is shown once
         (
             "txc run a.c --threads 2 --budget 50",
             LOOP,
@@ -204,19 +204,19 @@ fn ends() -> &'static [(&'static str, &'static [u8], &'static [u8])] {
             TWICE,
             b"txc: thread 0: running at 1:55\nint x; void worker(int self) { __transaction_atomic { x = 1; } __transaction_atomic { x = 2; } }\n                                                      ^^^^^\n",
         ),
-        // of an order that is stuck
+        // of a stuck order
         (
             "txc outcomes a.c --threads 2",
             WAITS,
             b"txc: with --order ''\ntxc: thread 0: waits at 5:9\n        __transaction_atomic { ok = flag; }\n        ^^^^^^^^^^^^^^^^^^^^\ntxc: thread 1: waits at 5:9\n",
         ),
-        // of each outcome that shows another place
+        // of each outcome with another place
         (
             "txc outcomes a.c --threads 2",
             EITHER,
             b"txc: with --order 0,1\ntxc: thread 1: trap 2 at 6:40: the divisor of 2 % 0 is 0\n        if (first) z = 1 / z; else z = 2 % z;\n                                       ^^^^^\ntxc: with --order 1,0\ntxc: thread 1: trap 2 at 6:24: the divisor of 1 / 0 is 0\n        if (first) z = 1 / z; else z = 2 % z;\n                       ^^^^^\n",
         ),
-        // and of none that shows no other one
+        // and of no outcome without another place
         (
             "txc outcomes a.c --threads 2",
             BOTH,
@@ -226,7 +226,7 @@ fn ends() -> &'static [(&'static str, &'static [u8], &'static [u8])] {
     &ROWS
 }
 
-/// The first of these command lines that tells something else.
+/// The first of these command lines with another report.
 fn wrong_end<H: Threads + Wait + Sync>(rt: &H, alloc: Global) -> Option<&'static str> {
     for (line, source, told) in ends() {
         if !is_told(rt, alloc, line, source, told) {

@@ -1,4 +1,4 @@
-//! Properties that are asked in all states and in all outcomes.
+//! Properties that are evaluated in all states and in all outcomes.
 
 use std::sync::Wait;
 use std::thread::Threads;
@@ -6,7 +6,7 @@ use test_serving::{Row, wrong_row};
 
 fn property_rows() -> &'static [Row] {
     static ROWS: [Row; 18] = [
-        // fails for two threads, whose number is not given
+        // fails for two threads, the default
         (
             "txc outcomes a.c --always alone",
             b"int x; int alone(void) { return x < 2; } void worker(int self) { __transaction_atomic { x = x + 1; } }",
@@ -28,7 +28,7 @@ fn property_rows() -> &'static [Row] {
                 b"",
             ),
         ),
-        // fails in the first state, in the last one, on the way alone
+        // fails in the first state, in the last one, only in between
         (
             "txc outcomes a.c --threads 1 --always later",
             b"int x; int later(void) { return x; } void worker(int self) { __transaction_atomic { x = 1; } }",
@@ -59,7 +59,7 @@ fn property_rows() -> &'static [Row] {
                 b"",
             ),
         ),
-        // fails in a state of a cycle alone, since no thread ends: the search stops there
+        // fails only in a state of a cycle, since no thread ends: the search stops there
         (
             "txc outcomes a.c --threads 2 --always not_five",
             b"int x; int not_five(void) { return x != 5; } void worker(int self) { while (1) { __transaction_atomic { x = (x + 1) % 7; } } }",
@@ -91,14 +91,14 @@ fn property_rows() -> &'static [Row] {
                 b"txc: each property has its answer, so the search stopped; --keep-going continues it\n",
             ),
         ),
-        // what it writes is gone, and what it cancels too; it may begin transactions and call
+        // its writes are undone, and so are those that it cancels; it may begin transactions and call functions
         (
             "txc outcomes a.c --threads 1 --always once",
             b"int x; int one(int k) { __transaction_atomic { x = x + k; if (k == 2) __transaction_cancel; } return x; } int once(void) { x = x + 1; return one(1) == 2 && one(2) == 2; } void worker(int self) { __transaction_atomic { x = 0; } }",
             b"",
             (0, b"== always once: states 2, threads: 1\n", b""),
         ),
-        // traps, by each of the traps that a call may come to
+        // traps, by each trap that is possible in a call
         (
             "txc outcomes a.c --threads 1 --always far",
             b"int x, a[2] = {1, 1}; int far(void) { return a[x * 2]; } void worker(int self) { __transaction_atomic { x = 1; } }",
@@ -119,7 +119,7 @@ fn property_rows() -> &'static [Row] {
                 b"",
             ),
         ),
-        // takes too long in one state alone
+        // takes too long in only one state
         (
             "txc outcomes a.c --threads 1 --always ends --steps 50",
             b"int x; int ends(void) { while (x) { } return 1; } void worker(int self) { __transaction_atomic { x = 1; } }",
@@ -130,7 +130,7 @@ fn property_rows() -> &'static [Row] {
                 b"",
             ),
         ),
-        // the walk is stopped: what was asked holds, or fails all the same
+        // the search is stopped: the property holds so far, or fails in spite of this
         (
             "txc outcomes a.c --threads 2 --always small --limit 2",
             b"int x; int small(void) { return x <= 2; } void worker(int self) { __transaction_atomic { x = x + 1; } }",
@@ -182,7 +182,7 @@ fn property_rows() -> &'static [Row] {
                 b"",
             ),
         ),
-        // a thread that traps leaves its memory
+        // a thread that traps leaves its memory unchanged
         (
             "txc outcomes a.c --threads 1 --final kept",
             b"int x = 1; int kept(void) { return x == 1; } void worker(int self) { __transaction_atomic { x = 2; x = 1 / (x - 2); } }",
@@ -198,7 +198,7 @@ fn properties_are_asked(rt: HostRuntime) {
     assert_eq!(rt; wrong_row(&rt, rt.alloc(), property_rows()), None);
 }
 
-/// Functions that may not be asked, and why.
+/// Functions that may not be properties, and the reasons.
 fn refused_rows() -> &'static [Row] {
     static ROWS: [Row; 11] = [
         (

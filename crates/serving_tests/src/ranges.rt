@@ -1,4 +1,4 @@
-//! Numbers of threads that are asked one after another.
+//! Ranges of numbers of threads, which are searched one number after another.
 
 use std::sync::Wait;
 use std::thread::Threads;
@@ -27,7 +27,7 @@ fn listed_rows() -> &'static [Row] {
                 b"",
             ),
         ),
-        // the first that has not the status 0 is the last: a trap, a stop, a stuck order
+        // the search ends with the first status that is not 0: a trap, a limit, a stuck order
         (
             "txc outcomes a.c --threads 1..3",
             b"int x; void worker(int self) { int k; __transaction_atomic { k = x; x = x + 1; } k = 1 / (k < 1); }",
@@ -58,7 +58,7 @@ fn listed_rows() -> &'static [Row] {
                 b"",
             ),
         ),
-        // no number of threads has another source, or another fault
+        // the source and its faults are the same for all numbers of threads
         (
             "txc outcomes a.c --threads 1..3",
             b"int x; void worker(int self) { y = 1; }",
@@ -162,7 +162,7 @@ fn asks_properties_of_several_numbers_of_threads(rt: HostRuntime) {
 
 fn compared_rows() -> &'static [Row] {
     static ROWS: [Row; 5] = [
-        // each outcome is one of another program's, for each number; for the first alone
+        // each outcome is one of another program's: for each number, only for the first
         (
             "txc outcomes a.c --threads 1..2 --refines b.c",
             b"int x; void worker(int self) { __transaction_atomic { x = x + 1; } }",
@@ -194,7 +194,7 @@ fn compared_rows() -> &'static [Row] {
                 b"txc: a.c: stopped at the limit\n",
             ),
         ),
-        // a list is of one number
+        // a list is for one number
         (
             "txc outcomes a.c --threads 2..2 --expect b.c",
             b"int x; void worker(int self) { __transaction_atomic { x = x + 1; } }",

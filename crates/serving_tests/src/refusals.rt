@@ -1,5 +1,5 @@
-//! The examples of docs/ERRORS.md: each is a source, its fault's number, and what standard error says behind the
-//! number. `scripts/faults.py` compares these tables with the document's.
+//! The examples of docs/ERRORS.md: each has a source, its fault's number, and the text that follows the number on
+//! standard error. `scripts/faults.py` compares these tables with the document's.
 
 use command::Format;
 use serving::{Detail, Teller};
@@ -9,7 +9,7 @@ use std::thread::Threads;
 use test_serving::{ServeResult, answers, serve_line};
 use workers::RunFault;
 
-/// A source, the number of its fault, and what is told behind it.
+/// A source, the number of its fault, and the text that follows it.
 type Told = (&'static str, u32, &'static str);
 
 /// The faults of sources, each with a short source that has it.
@@ -168,10 +168,10 @@ fn told_faults() -> &'static [Told] {
     &TOLD
 }
 
-/// A source in pieces, each so many times, the number of its fault, and what is told behind it.
+/// A source in pieces, each with a number of repetitions, the number of its fault, and the text that follows it.
 type ToldOfLong = (&'static [(&'static str, usize)], u32, &'static str);
 
-/// Long sources, and what is told of their faults.
+/// Long sources, and the reports of their faults.
 fn told_of_long() -> &'static [ToldOfLong] {
     static LONG: [ToldOfLong; 4] = [
         (&[(" ", 1048577)], 5, "1:1: file too long"),
@@ -211,7 +211,7 @@ fn told_of_long() -> &'static [ToldOfLong] {
     &LONG
 }
 
-/// The text that pieces make.
+/// The text of these pieces.
 pub fn text_of_pieces(alloc: Global, pieces: &[(&str, usize)]) -> Result<String, AllocError> {
     let mut text = String::new(alloc);
     for (piece, times) in pieces {
@@ -220,12 +220,12 @@ pub fn text_of_pieces(alloc: Global, pieces: &[(&str, usize)]) -> Result<String,
     Ok(text)
 }
 
-/// The line that tells a fault.
+/// The line that reports a fault.
 fn line(alloc: Global, number: u32, told: &str) -> Result<String, AllocError> {
     format!(in alloc; "txc: fault {number:02} at {told}\n")
 }
 
-/// Whether `txc run` answers a source so.
+/// Whether `txc run` has this answer to a source.
 fn runs_to<H: Threads + Wait + Sync>(
     rt: &H,
     alloc: Global,
@@ -235,7 +235,7 @@ fn runs_to<H: Threads + Wait + Sync>(
     answers(rt, alloc, "txc run a.c", source, b"", false, wanted)
 }
 
-/// Whether `txc run` answers a source by a fault with this number, and these words behind it.
+/// Whether `txc run` answers a source with the fault of this number, followed by these words.
 fn is_told<H: Threads + Wait + Sync>(
     rt: &H,
     alloc: Global,
@@ -249,7 +249,7 @@ fn is_told<H: Threads + Wait + Sync>(
     }
 }
 
-/// The first source of the table that is answered otherwise.
+/// The first source of the table with another answer.
 fn not_told<H: Threads + Wait + Sync>(rt: &H, alloc: Global) -> Option<&'static str> {
     for (source, number, words) in told_faults() {
         if !is_told(rt, alloc, source.as_bytes(), *number, words) {
@@ -264,7 +264,7 @@ fn faults_are_told_with_place_and_words(rt: HostRuntime) {
     assert_eq!(rt; not_told(&rt, rt.alloc()), None);
 }
 
-/// Whether the fault of a source in pieces is told with this number and these words.
+/// Whether the fault of a source in pieces is reported with this number and these words.
 fn is_told_of<H: Threads + Wait + Sync>(
     rt: &H,
     alloc: Global,
@@ -278,7 +278,7 @@ fn is_told_of<H: Threads + Wait + Sync>(
     }
 }
 
-/// The first fault of a long source that is answered otherwise.
+/// The first fault of a long source with another answer.
 fn not_told_of_long<H: Threads + Wait + Sync>(rt: &H, alloc: Global) -> Option<u32> {
     for (pieces, number, words) in told_of_long() {
         if !is_told_of(rt, alloc, pieces, *number, words) {
@@ -293,7 +293,7 @@ fn faults_of_long_sources_are_told(rt: HostRuntime) {
     assert_eq!(rt; not_told_of_long(&rt, rt.alloc()), None);
 }
 
-/// A worker with so many locals.
+/// A worker with this many locals.
 fn with_locals(alloc: Global, count: u32) -> Result<String, AllocError> {
     let mut text = String::from_str(alloc, "void worker(int self) { ")?;
     for number in 0..count {
@@ -303,7 +303,7 @@ fn with_locals(alloc: Global, count: u32) -> Result<String, AllocError> {
     Ok(text)
 }
 
-/// Whether a worker with so many locals is answered by this fault.
+/// Whether a worker with this many locals has this fault.
 fn is_told_of_locals<H: Threads + Wait + Sync>(
     rt: &H,
     alloc: Global,
@@ -317,7 +317,7 @@ fn is_told_of_locals<H: Threads + Wait + Sync>(
     }
 }
 
-/// Sources for which no code is made.
+/// Sources for which no code is generated.
 #[test]
 fn what_has_no_code_is_told(rt: HostRuntime) {
     assert!(rt; is_told_of_locals(&rt, rt.alloc(), 65_535, 60, "1:6: too many registers"));
@@ -329,7 +329,7 @@ fn what_has_no_code_is_told(rt: HostRuntime) {
     assert!(rt; is_told_of(&rt, rt.alloc(), &pieces, 61, "1:37: too much code"));
 }
 
-/// What is told on a terminal of a source.
+/// The report of a source on a terminal.
 const UNDERLINED: (&str, &str) = (
     "void worker(int self) { __transaction_atomic { zoo = 1; } }",
     "txc: fault 20 at 1:48: unknown name\nvoid worker(int self) { __transaction_atomic { zoo = 1; } }\n                                               ^^^\nit is not declared anywhere\ntxc explain 20 says more\n",
@@ -345,7 +345,7 @@ fn the_line_follows_on_a_terminal(rt: HostRuntime) {
     assert!(rt; answers(&rt, rt.alloc(), verbose, source, b"", false, wanted));
 }
 
-/// Whether what a command line is answered begins so.
+/// Whether the answer to a command line has this prefix.
 fn explains<H: Threads + Wait + Sync>(rt: &H, alloc: Global, line: &str, begins: &[u8]) -> bool {
     match serve_line(rt, alloc, line, b"", b"", false) {
         Some(served) => served.status == 0 && served.out.starts_with(begins),
@@ -392,7 +392,7 @@ fn explains_faults(rt: HostRuntime) {
     assert!(rt; answers(&rt, rt.alloc(), "txc explain 07", b"", b"", false, unknown));
 }
 
-/// Whether a file of so many bytes, of which none is a character's, is answered so, to a terminal or not.
+/// Whether a file of this many bytes, none of which belongs to a character, has this answer, on a terminal or not.
 fn no_text_is_told<H: Threads + Wait + Sync>(
     rt: &H,
     alloc: Global,
@@ -414,7 +414,7 @@ fn no_text_is_told<H: Threads + Wait + Sync>(
     }
 }
 
-/// A long file is told not to be UTF-8, and one that is too long to be that.
+/// A long file is reported not to be UTF-8, and a longer one to be too long.
 #[test]
 fn a_long_file_that_is_not_utf8_is_told(rt: HostRuntime) {
     let no_text = (2, b"".as_slice(), b"txc: a.c is not UTF-8\n".as_slice());
@@ -428,7 +428,7 @@ fn a_long_file_that_is_not_utf8_is_told(rt: HostRuntime) {
     assert!(rt; no_text_is_told(&rt, rt.alloc(), 1_048_577, true, in_full));
 }
 
-/// Whether this is told of a run that is refused, to a terminal or not.
+/// Whether this is the report of a refused run, on a terminal or not.
 fn is_told_of_run(alloc: Global, fault: RunFault, is_terminal: bool, told: &[u8]) -> bool {
     let mut err = Vec::new(alloc);
     let detail = Detail::of("a.c", false, Format::Plain, is_terminal);
@@ -437,7 +437,7 @@ fn is_told_of_run(alloc: Global, fault: RunFault, is_terminal: bool, told: &[u8]
     status == 4 && err.as_slice() == told
 }
 
-/// Why a run is refused that no command line asks for, or that the system gives no thread or no memory.
+/// A run is refused that no command line requests, or for which the system provides no thread or no memory.
 #[test]
 fn refused_runs_are_told(rt: HostRuntime) {
     assert!(rt; is_told_of_run(rt.alloc(), RunFault::Threads, false, b"txc: fault 72\n"));

@@ -1,4 +1,4 @@
-//! Runs, orders and listings of sources, and what is said of files and words.
+//! Runs, orders and listings of sources, and reports about files and words.
 
 use command::{Format, Request, UsageFault};
 use serving::{Detail, Teller, serve, tell_usage, unread_words};
@@ -12,7 +12,7 @@ use test_serving::{
     ADDS, Broken, Row, ServeResult, answers, is_answer, request_of, serve_bytes, wrong_row,
 };
 
-/// A writer that takes no byte.
+/// A writer that takes no bytes.
 #[derive(Drop)]
 pub(crate) struct Closed;
 
@@ -33,7 +33,7 @@ const FIRST_REPORT: &[u8] = b"== thread 0: ended\n== memory\nx = 42\ny = 41\n";
 
 const RUN: &str = "txc run a.c";
 
-/// The rows stand in functions, so that no proof but theirs looks at them.
+/// The rows are in functions, so that only their own proofs evaluate them.
 fn sources() -> &'static [Row] {
     static ROWS: [Row; 19] = [
         (RUN, FIRST, b"", (0, FIRST_REPORT, b"")),
@@ -53,14 +53,14 @@ fn sources() -> &'static [Row] {
             b"",
             (0, b"== thread 0: ended\n== memory\nx = -2\n", b""),
         ),
-        // what a cancel undoes: the locals and the memory
+        // a cancel undoes changes to the locals and to the memory
         (
             RUN,
             b"int x = 1; void worker(int self) { int a = 5; __transaction_atomic { a = 6; x = 2; __transaction_cancel; } printf(\"%d\\n\", a); }",
             b"",
             (0, b"== thread 0: ended\n5\n== memory\nx = 1\n", b""),
         ),
-        // an inner cancel, and an inner transaction that is left by a return
+        // an inner cancel, and an inner transaction that a return leaves
         (
             RUN,
             b"int x = 1, y; void worker(int self) { __transaction_atomic { x = 2; __transaction_atomic { x = 3; y = x; __transaction_cancel; } y = x + y; } }",
@@ -73,14 +73,14 @@ fn sources() -> &'static [Row] {
             b"",
             (0, b"== thread 0: ended\n6\n== memory\nx = 5\n", b""),
         ),
-        // each transaction finds what the one before it left
+        // each transaction finds the values that the one before it left
         (
             RUN,
             b"int n; void worker(int self) { while (1) { __transaction_atomic { n = n + 1; if (n == 3) break; } } printf(\"done\"); }",
             b"",
             (0, b"== thread 0: ended\ndone\n== memory\nn = 3\n", b""),
         ),
-        // a trap keeps what was printed, and leaves the memory that its transaction found
+        // a trap keeps the output, and leaves the memory that its transaction found
         (
             RUN,
             b"int x = 2147483647, y; void worker(int self) { __transaction_relaxed { y = 3; printf(\"go\\n\"); x = x + 1; } }",
@@ -126,7 +126,7 @@ fn sources() -> &'static [Row] {
             b"",
             (0, b"== thread 0: ended\n== memory\nx = 0\n", b""),
         ),
-        // transactions that are expressions: in sums, conditions, initialisers, arguments and in one another
+        // transactions as expressions: in sums, conditions, initialisers, arguments and in one another
         (
             RUN,
             b"int x = 5; void worker(int self) { int v = __transaction_atomic(x + 1) * 2; printf(\"%d\", v); }",
@@ -185,14 +185,14 @@ fn check_rows() -> &'static [Row] {
             b"",
             (0, b"accepted\n", b""),
         ),
-        // lines and comments that are passed over
+        // lines and comments that are skipped
         (
             "txc check a.c",
             b"#include <stdio.h>\n// c\nvoid worker(int self) { /* any */ }",
             b"",
             (0, b"accepted\n", b""),
         ),
-        // calls of what is not safe
+        // calls of functions that are not safe
         (
             "txc check a.c",
             b"void f(void) { __transaction_relaxed { } }\nvoid worker(int self) { __transaction_atomic { f(); } }",
@@ -264,7 +264,7 @@ fn says_what_is_accepted(rt: HostRuntime) {
 /// A transaction that never ends.
 const TURNS: &[u8] = b"int x; void worker(int self) { __transaction_atomic { while (1) { } } }";
 
-/// Two threads, of which each transaction shows which of them was first.
+/// Two threads; each transaction shows which of them was first.
 const SHOWS: &[u8] =
     b"int x; void worker(int self) { int i; for (i = 0; i < 2; i++) { int v; __transaction_atomic { x = x * 10 + self + 1; v = x; } printf(\"%d\\n\", v); } }";
 
@@ -302,7 +302,7 @@ fn orders() -> &'static [Row] {
             b"",
             (4, b"== thread 0: spent\n== memory\nx = 0\n", b""),
         ),
-        // the memory is the order's; an entry of a thread that has ended does nothing
+        // the memory is that of the order; an entry of a thread that has ended does nothing
         (
             "txc source --threads 2 a.c --order 0,1,1,0 --ticks 1000",
             SHOWS,
@@ -323,7 +323,7 @@ fn orders() -> &'static [Row] {
                 b"",
             ),
         ),
-        // a thread that has trapped, beside one that waits
+        // a thread that has trapped, and one that waits
         (
             "txc source --threads 1 a.c --order 0 --ticks 1000",
             b"int x = 2147483647; void worker(int self) { __transaction_atomic { x = x + 1; } }",
@@ -340,7 +340,7 @@ fn orders() -> &'static [Row] {
                 b"",
             ),
         ),
-        // the numbers of the memory and of the text are whole
+        // the numbers of the memory and of the text are complete
         (
             "txc source --threads 2 a.c --order 0,1,0,1 --ticks 1000",
             b"long long x = 4294967295; void worker(int self) { for (int i = 0; i < 2; i++) { long long v; __transaction_atomic { x = x * (self + 2); v = x; } printf(\"%lld \", v); } }",
@@ -351,7 +351,7 @@ fn orders() -> &'static [Row] {
                 b"",
             ),
         ),
-        // a stranger, and the source's own faults before it
+        // a thread that does not exist; the source's own faults come first
         (
             "txc source --threads 2 a.c --order 0,2 --ticks 1000",
             ADDS,
@@ -377,7 +377,7 @@ fn serves_threads_in_an_order(rt: HostRuntime) {
     assert_eq!(rt; wrong_row(&rt, rt.alloc(), orders()), None);
 }
 
-/// Whether why words are refused is told so: with this status, output that begins so and this standard error.
+/// Whether invalid words have this report: with this status, output with this prefix and this standard error.
 fn is_told_so(alloc: Global, fault: &UsageFault, wanted: ServeResult) -> bool {
     let mut out = Vec::new(alloc);
     let mut err = Vec::new(alloc);
@@ -386,7 +386,7 @@ fn is_told_so(alloc: Global, fault: &UsageFault, wanted: ServeResult) -> bool {
     status == wanted.0 && begins && err.as_slice() == wanted.2
 }
 
-/// Whether why a command line is refused is told so: with this status, output that begins so and this standard error.
+/// Whether an invalid command line has this report: with this status, output with this prefix and this standard error.
 fn is_refused(alloc: Global, line: &str, wanted: ServeResult) -> bool {
     match request_of(alloc, line) {
         Ok(_) => false,
@@ -394,7 +394,7 @@ fn is_refused(alloc: Global, line: &str, wanted: ServeResult) -> bool {
     }
 }
 
-/// Words that are wrong before any file is opened, and words that ask for help.
+/// Words that are wrong before any file is opened, and words that request help.
 #[test]
 fn says_what_words_are_wrong(rt: HostRuntime) {
     let wrong = "txc source no/such/file.c --order=0,,1";
@@ -406,7 +406,7 @@ fn says_what_words_are_wrong(rt: HostRuntime) {
     assert!(rt; is_told_so(rt.alloc(), &UsageFault::OutOfMemory, refused));
 }
 
-/// Whether words that were not had are told so.
+/// Whether words that could not be read have this report.
 fn are_words_unread(alloc: Global, kind: ErrorKind, wanted: ServeResult) -> bool {
     let mut err = Vec::new(alloc);
     let status = unread_words(kind, &mut err);
@@ -422,7 +422,7 @@ fn says_why_words_were_not_had(rt: HostRuntime) {
     assert!(rt; are_words_unread(alloc, ErrorKind::InvalidData, bytes));
 }
 
-/// Whether output that cannot be written is told so.
+/// Whether output that cannot be written has this report.
 fn cannot_write<H: Threads + Wait + Sync>(
     rt: &H,
     alloc: Global,
@@ -445,7 +445,7 @@ fn cannot_write<H: Threads + Wait + Sync>(
     status == 4 && err.as_slice() == told
 }
 
-/// Whether output that cannot be written is told so, of a command line.
+/// Whether output of a command line that cannot be written has this report.
 fn cannot_write_for<H: Threads + Wait + Sync>(
     rt: &H,
     alloc: Global,
@@ -458,7 +458,7 @@ fn cannot_write_for<H: Threads + Wait + Sync>(
     }
 }
 
-/// Whether this is told of a source that cannot be read.
+/// Whether a source that cannot be read has this report.
 fn is_unread<H: Threads + Wait + Sync>(rt: &H, alloc: Global, line: &str, told: &[u8]) -> bool {
     let none = b"".as_slice();
     match request_of(alloc, line) {
@@ -481,7 +481,7 @@ fn says_why_it_cannot_be_read(rt: HostRuntime) {
     assert!(rt; is_unread(&rt, rt.alloc(), "txc run --verbose a.c", told));
 }
 
-/// What is said of a file that the system does not open, and the status; nothing where it is opened.
+/// The status and the report if the system does not open a file; nothing if it opens the file.
 fn told_unless_opened(rt: &HostRuntime, alloc: Global, file: &str) -> (u8, Vec<u8>) {
     let mut err = Vec::new(alloc);
     let detail = Detail::of(file, false, Format::Plain, false);
@@ -565,11 +565,11 @@ fn serves_concurrent_threads(rt: HostRuntime) {
     assert_eq!(rt; wrong_row(&rt, rt.alloc(), concurrent_rows()), None);
 }
 
-/// Threads that each write a cell of their own, of which the last one prints.
+/// Threads that each write a cell of their own; the last one prints the cells.
 const CELLS: &[u8] =
     b"int x[64]; void worker(int self) { __transaction_atomic { x[self] = self; } if (self == 63) printf(\"%d\", self); }";
 
-/// The report of 64 threads that each write a cell of their own, of which the last one prints.
+/// The report of 64 threads that each write a cell of their own; the last one prints the cells.
 const CELLS_REPORT: &[u8] =
     b"== thread 0: ended\n== thread 1: ended\n== thread 2: ended\n== thread 3: ended\n== thread 4: ended\n== thread 5: ended\n== thread 6: ended\n== thread 7: ended\n== thread 8: ended\n== thread 9: ended\n== thread 10: ended\n== thread 11: ended\n== thread 12: ended\n== thread 13: ended\n== thread 14: ended\n== thread 15: ended\n== thread 16: ended\n== thread 17: ended\n== thread 18: ended\n== thread 19: ended\n== thread 20: ended\n== thread 21: ended\n== thread 22: ended\n== thread 23: ended\n== thread 24: ended\n== thread 25: ended\n== thread 26: ended\n== thread 27: ended\n== thread 28: ended\n== thread 29: ended\n== thread 30: ended\n== thread 31: ended\n== thread 32: ended\n== thread 33: ended\n== thread 34: ended\n== thread 35: ended\n== thread 36: ended\n== thread 37: ended\n== thread 38: ended\n== thread 39: ended\n== thread 40: ended\n== thread 41: ended\n== thread 42: ended\n== thread 43: ended\n== thread 44: ended\n== thread 45: ended\n== thread 46: ended\n== thread 47: ended\n== thread 48: ended\n== thread 49: ended\n== thread 50: ended\n== thread 51: ended\n== thread 52: ended\n== thread 53: ended\n== thread 54: ended\n== thread 55: ended\n== thread 56: ended\n== thread 57: ended\n== thread 58: ended\n== thread 59: ended\n== thread 60: ended\n== thread 61: ended\n== thread 62: ended\n== thread 63: ended\n63\n== memory\nx = 0 1 2 3 4 5 6 7 8 9 10 11 12 13 14 15 16 17 18 19 20 21 22 23 24 25 26 27 28 29 30 31 32 33 34 35 36 37 38 39 40 41 42 43 44 45 46 47 48 49 50 51 52 53 54 55 56 57 58 59 60 61 62 63\n";
 

@@ -9,7 +9,7 @@ use std::time::Clock;
 use system::serve_words;
 
 /// A command line, the contents of its two files, the exit status, how the output begins and ends, and the text on
-/// standard error. The time stands between the beginning and the end.
+/// standard error. The time is between the beginning and the end.
 type Row = (
     &'static str,
     Found,

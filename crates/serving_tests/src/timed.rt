@@ -1,4 +1,4 @@
-//! Tests of the seconds behind a line that tells how far a walk is.
+//! Tests of the seconds at the end of a progress line.
 
 use crate::all_orders::MANY;
 use command::Format;
@@ -10,7 +10,7 @@ use std::io;
 use std::io::ErrorKind;
 use std::time::{Clock, Duration};
 
-/// A clock that goes on by some seconds each time it is read.
+/// A clock that advances by some seconds each time it is read.
 #[derive(Drop)]
 struct Ticking {
     now: Cell<u64>,
@@ -43,7 +43,7 @@ impl Clock for Broken {
     }
 }
 
-/// Whether this is told of a walk over more than 1,000 states and fewer than 2,000, before the line is taken away.
+/// Whether this is the progress of a search with 1,000 to 2,000 states, before the line is cleared.
 fn is_told<C: Clock>(alloc: Global, clock: &C, line: &[u8]) -> bool {
     let mut told = Vec::new(alloc);
     let mut timed = Timed::new(&mut told, clock, None);
@@ -57,7 +57,7 @@ fn is_told<C: Clock>(alloc: Global, clock: &C, line: &[u8]) -> bool {
         }
 }
 
-/// What takes a line away.
+/// The text that clears a line.
 fn line_cleared() -> &'static [u8] {
     b"\r                                                                               \r"
 }

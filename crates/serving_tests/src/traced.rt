@@ -1,4 +1,4 @@
-//! What `txc trace` prints. Of a trace only its exit status is proved.
+//! The output of `txc trace`. Contracts cover only the exit status of a trace.
 
 use test_serving::{Row, wrong_row};
 
@@ -75,7 +75,7 @@ fn traces() -> &'static [Row] {
                 b"txc: thread 0: trap 2 at 2:59: the divisor of 3 / 0 is 0\nvoid worker(int self) { __transaction_atomic { y = 1; x = x / self; } }\n                                                          ^^^^^^^^\n",
             ),
         ),
-        // nothing is shown of a write that is undone; a text is shown with its turn
+        // an undone write is not shown; a text is shown with its turn
         (
             "txc trace a.c --threads 1 --order 0,0,0",
             NESTS,
@@ -146,7 +146,7 @@ fn traces() -> &'static [Row] {
                 b"",
             ),
         ),
-        // of an array the elements are shown that are used
+        // of an array, only the elements that are used are shown
         (
             "txc trace a.c --threads 1 --order 0",
             b"int a[4]; void worker(int self) { int t; __transaction_atomic { t = a[3]; a[0] = t + 2; } }",
@@ -179,7 +179,7 @@ fn traces() -> &'static [Row] {
                 b"",
             ),
         ),
-        // a first word that is too long is cut
+        // a first word that is too long is shortened
         (
             "txc trace a.c --threads 1 --order 0",
             b"int a_name_that_is_longer_than_forty_characters; void worker(int self) { __transaction_atomic(a_name_that_is_longer_than_forty_characters); }",

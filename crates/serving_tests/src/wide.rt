@@ -4,7 +4,7 @@ use test_serving::{Row, wrong_row};
 
 const RUN: &str = "txc run a.c";
 
-/// The rows stand in a function, so that no proof but theirs looks at them.
+/// The rows are in a function, so that only their own proofs evaluate them.
 fn wide() -> &'static [Row] {
     static ROWS: [Row; 26] = [
         (
@@ -173,7 +173,7 @@ fn wide() -> &'static [Row] {
                 b"",
             ),
         ),
-        // operators where numbers end, conversions, conditions, loops and cancels
+        // operators at the limits of numbers, conversions, conditions, loops and cancels
         (
             RUN,
             b"long long m(int i) { return i == 0 ? 9223372036854775807 : i == 1 ? -9223372036854775807 - 1 : i == 2 ? 2147483648 : 4294967295u; } void worker(int self) { for (int i = 0; i < 4; i++) for (long long j = 0; j < 4; j++) { long long a = m(i), b = m(j); printf(\"%lld %lld %lld %lld;\", a & b, a | b, a ^ b, ~a); printf(\"%d%d%d%d%d%d \", a < b, a > b, a <= b, a >= b, a == b, a != b); } }",
@@ -248,7 +248,7 @@ fn wide() -> &'static [Row] {
     &ROWS
 }
 
-/// Programs with `long long`: what they print and leave, how they trap, and why they are refused.
+/// Programs with `long long`: their output and memory, their traps, and the reasons for refusals.
 #[test]
 fn serves_sources_with_long_long(rt: HostRuntime) {
     assert_eq!(rt; wrong_row(&rt, rt.alloc(), wide()), None);

@@ -16,7 +16,7 @@ use std::io::{ErrorKind, Read, Write};
 #[derive(Drop)]
 pub struct KeptFile {
     pub name: String,
-    /// What it gave.
+    /// Its contents.
     pub bytes: Vec<u8>,
 }
 
@@ -64,7 +64,7 @@ fn read_whole<R: Read + Drop>(alloc: Global, mut file: R) -> io::Result<Vec<u8>>
 #[derive(Clone, Copy)]
 struct NamedFile<'n> {
     name: &'n str,
-    /// Whether it is to be a source. Then no more of it is read than shows that it is too long.
+    /// Whether it is to be a source. Then at most one byte past the size limit is read.
     is_source: bool,
     /// Whether the reason is reported if the file can't be read.
     verbose: bool,
@@ -122,7 +122,7 @@ fn read_file<F: Files>(alloc: Global, named: &NamedFile<'_>, files: &F) -> io::R
     Ok(KeptFile { name, bytes })
 }
 
-/// Reads a file and keeps it, behind those that are kept.
+/// Reads a file and keeps it, after the files kept before.
 fn read_into<F: Files>(
     alloc: Global,
     named: &NamedFile<'_>,

@@ -1,5 +1,5 @@
-//! The program, as a function: answers words over files and two writers, and gives back the exit status, what was
-//! printed and the files that were read.
+//! The program, as a function: answers words over files and two writers, and returns the exit status, the printed text
+//! and the files that were read.
 #![tactic(auto)]
 
 mod kept;

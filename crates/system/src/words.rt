@@ -22,16 +22,16 @@ use std::sync::Wait;
 use std::thread::Threads;
 use std::time::Clock;
 
-/// What was answered to words.
+/// The answer to words.
 #[derive(Drop)]
 pub struct Answer<W> {
     /// The exit status.
     pub status: u8,
-    /// What was printed, for proofs alone.
+    /// The printed text, for proofs alone.
     pub printed: Sent,
     /// The files that were read.
     pub files: Vec<KeptFile>,
-    /// Where it was printed.
+    /// The writer to which it was printed.
     pub out: W,
 }
 
@@ -67,7 +67,7 @@ fn serve_kept<
     }
 }
 
-/// Tells help, or why words are not a request.
+/// Prints help, or reports why words are not a request.
 fn tell_recorded<B: Begun, W: Write + Drop, E: Write>(
     fault: &UsageFault,
     out: W,
@@ -89,7 +89,7 @@ fn tell_recorded<B: Begun, W: Write + Drop, E: Write>(
     }
 }
 
-/// Reads the files that a request names, and does what it asks over them. If one can't be read, says so and prints
+/// Reads the files that a request names, and answers the request over them. If one can't be read, reports it and prints
 /// nothing.
 pub(crate) fn serve_request<
     H: Threads + Wait + Clock + Sync,
@@ -123,7 +123,7 @@ pub(crate) fn serve_request<
     }
 }
 
-/// Tells help, or why words are not a request.
+/// Prints help, or reports why words are not a request.
 fn tell_fault<W: Write + Drop, E: Write>(
     alloc: Global,
     fault: &UsageFault,
@@ -232,9 +232,9 @@ fn serve_job<
     }
 }
 
-/// Reads the words of a command line, the program's own name first, and does what they ask, as `serve_asked` does, over
-/// files that are read first. Help and the version go to `out`; what is wrong with words goes to `err`, with the status
-/// 2, as does why a file can't be read.
+/// Reads the words of a command line, the program's own name first, and answers them, as `serve_asked` does, over
+/// files that are read first. Help and the version go to `out`. Invalid words are reported on `err` with the status 2,
+/// and so is a file that can't be read.
 pub fn serve_words<
     H: Threads + Wait + Clock + Sync,
     F: Files,

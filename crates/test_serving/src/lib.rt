@@ -1,4 +1,4 @@
-//! Test support: what is answered to command lines, over readers and writers in memory.
+//! Test support: the answers to command lines, over readers and writers in memory.
 #![tactic(auto)]
 
 use command::{Asked, Request, UsageFault, command};
@@ -12,7 +12,7 @@ use std::thread::Threads;
 /// Two threads that each add one.
 pub const ADDS: &[u8] = b"int x; void worker(int self) { __transaction_atomic { x = x + 1; } }";
 
-/// What serving a request gives: the status, the output and the standard error.
+/// The result of serving a request: the status, the output and the standard error.
 #[derive(Drop)]
 pub struct Served {
     pub status: u8,
@@ -20,10 +20,10 @@ pub struct Served {
     pub err: Vec<u8>,
 }
 
-/// What is answered: the status, the output and the standard error.
+/// An answer: the status, the output and the standard error.
 pub type ServeResult<'a> = (u8, &'a [u8], &'a [u8]);
 
-/// A command line, the source and the other file that it reads, and what is answered.
+/// A command line, the source and the other file that it reads, and the answer.
 pub type Row = (
     &'static str,
     &'static [u8],
@@ -31,14 +31,14 @@ pub type Row = (
     ServeResult<'static>,
 );
 
-/// Whether this is what was served.
+/// Whether a request was served with this answer.
 pub fn is_answer(served: &Served, wanted: ServeResult) -> bool {
     served.status == wanted.0
         && served.out.as_slice() == wanted.1
         && served.err.as_slice() == wanted.2
 }
 
-/// What a command line asks, in which a space ends each word but the last.
+/// The request of a command line, in which a space ends each word but the last.
 pub fn asked_of(alloc: Global, line: &str) -> Result<Asked, UsageFault> {
     let words: Vec<&str> = line.split(' ').collect(alloc)?;
     command(alloc, words.as_slice())
@@ -89,8 +89,8 @@ pub fn serve_claim<H: Threads + Wait + Sync, R: Read + Drop, S: Read + Drop, Q: 
     Served { status, out, err }
 }
 
-/// What is served to a command line, on a terminal or not. The other file is a schedule, or what outcomes are compared
-/// with.
+/// Serves a command line, on a terminal or not. The other file is a schedule, or the one with which outcomes are
+/// compared.
 pub fn serve_line<H: Threads + Wait + Sync>(
     rt: &H,
     alloc: Global,
@@ -105,7 +105,7 @@ pub fn serve_line<H: Threads + Wait + Sync>(
     }
 }
 
-/// Whether a command line is answered so.
+/// Whether a command line has this answer.
 pub fn answers<H: Threads + Wait + Sync>(
     rt: &H,
     alloc: Global,
@@ -121,8 +121,8 @@ pub fn answers<H: Threads + Wait + Sync>(
     }
 }
 
-/// A row that is answered otherwise than it says: its number, from 0, its command line, what was answered, and what it
-/// says. Nothing is answered where the words are wrong.
+/// A row with another answer than expected: its number, counted from 0, its command line, its answer, and the expected
+/// one. There is no answer if the words are wrong.
 #[derive(Debug, Drop, PartialEq)]
 pub struct WrongRow {
     pub number: usize,
@@ -131,7 +131,7 @@ pub struct WrongRow {
     pub wanted: Option<String>,
 }
 
-/// An answer in a line of text, if there was memory for it.
+/// An answer in a line of text, unless an allocation failed.
 fn answer_text(alloc: Global, answer: ServeResult) -> Option<String> {
     let (status, out, err) = answer;
     let out = String::from_utf8_lossy(alloc, out).ok()?;
@@ -144,7 +144,7 @@ fn answer_text(alloc: Global, answer: ServeResult) -> Option<String> {
     text.ok()
 }
 
-/// What was served, in a line of text.
+/// The result of serving, in a line of text.
 fn served_shown(alloc: Global, served: Option<Served>) -> Option<String> {
     match served {
         Some(served) => answer_text(
@@ -155,7 +155,7 @@ fn served_shown(alloc: Global, served: Option<Served>) -> Option<String> {
     }
 }
 
-/// The first of these rows that is answered otherwise.
+/// The first of these rows with another answer than expected.
 pub fn wrong_row<H: Threads + Wait + Sync>(
     rt: &H,
     alloc: Global,
@@ -177,7 +177,7 @@ pub fn wrong_row<H: Threads + Wait + Sync>(
     None
 }
 
-/// A reader that gives no byte.
+/// A reader that returns no bytes.
 #[derive(Drop)]
 pub struct Broken;
 

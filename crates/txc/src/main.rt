@@ -1,4 +1,4 @@
-//! The program: reads its words, and does what they ask with files of the system.
+//! The program: reads its words, and answers them over files of the system.
 #![tactic(auto)]
 
 ghost use Rattle.std.specs.Prelude.{◌≡◌, ◌≤◌, [], IfOk, None, Some, map, string_bytes};
@@ -59,7 +59,7 @@ fn lent<'w>(alloc: Global, words: &'w [String]) -> Result<Vec<&'w str>, AllocErr
     Ok(all)
 }
 
-/// Does what words ask, over files and two writers: the exit status, what was printed, and the files that were read.
+/// Answers words over files and two writers. Returns the exit status, the printed text, and the files that were read.
 fn answer<
     H: Threads + Wait + Clock + Sync,
     F: Files,

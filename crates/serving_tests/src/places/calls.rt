@@ -1,6 +1,6 @@
 use crate::places::Told;
 
-/// A trap in an argument, in what is called, or of a call.
+/// A trap in an argument, in the called function, or of a call.
 pub(crate) fn rows() -> &'static [Told] {
     static ROWS: [Told; 17] = [
         (

@@ -1,6 +1,6 @@
 use crate::places::Told;
 
-/// A trap in a part of an expression that is computed only at times.
+/// A trap in a part of an expression that is not always computed.
 pub(crate) fn rows() -> &'static [Told] {
     static ROWS: [Told; 11] = [
         (

@@ -1,6 +1,6 @@
 use crate::places::Told;
 
-/// A trap in a condition, or where a loop begins or goes on.
+/// A trap in a condition, or in the beginning or the step of a loop.
 pub(crate) fn rows() -> &'static [Told] {
     static ROWS: [Told; 7] = [
         (

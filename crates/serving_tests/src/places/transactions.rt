@@ -1,6 +1,6 @@
 use crate::places::Told;
 
-/// A trap in a transaction, or behind one.
+/// A trap in a transaction, or after one.
 pub(crate) fn rows() -> &'static [Told] {
     static ROWS: [Told; 13] = [
         (
