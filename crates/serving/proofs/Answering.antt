@@ -1,4 +1,4 @@
--- What a status says of properties.
+-- The meaning of a status for properties.
 use Rattle.std.proofs.Common.{◌≡◌, ◌≢◌, ◌⊎◌, inl, ◌-◌, ℕ, Bool, true, false, List, [], ◌∷◌, ◌++◌, ◌<◌, All, Contains, Option, Some, map, length, get_or, ap, refl, sym, subst, arith}
 use Rattle.std.specs.Prelude.{◌||◌}
 use Rattle.std.specs.List.{list_any}
@@ -29,7 +29,7 @@ use Rattle.serving.proofs.Parts.{part_so}
 use Rattle.serving.proofs.Printing.{serves_so}
 use Rattle.serving.proofs.Verdicts.{at_most_five, not_five, not_one, not_zero}
 
--- ---- what was found by one definition was found by another
+-- ---- findings by one definition are findings by another
 
 module _ (threads : ℕ) (Is Are : WalkEnd → List Property → List ReportedOrder → Type 0) (so : (end : WalkEnd) (ps : List Property) (ss : List ReportedOrder) → Is end ps ss → Are end ps ss) where
   tells_so : (status : ℕ) (old new : Option (List ℕ)) → TellsProperties threads Is status old new → TellsProperties threads Are status old new
@@ -47,7 +47,7 @@ module _ (threads : ℕ) (Is Are : WalkEnd → List Property → List ReportedOr
   pub prints_so : (status : ℕ) (old new : Option (List ℕ)) → PrintsProperties threads Is status old new → PrintsProperties threads Are status old new
   prints_so status old new s = serves_so s (tells_so status old new) (parts_so old new)
 
--- of an accepted program, and of the text that spells it
+-- findings for an accepted program are findings for the text that spells it
 module _ (questions : Questions) (text : List ℕ) (source : ParsedSource) (spelled : IsSourceOf text source) (accepted : ∥ IsAccepted source.program ∥₁) where
   abbrev pub Theirs : ℕ → WalkEnd → List Property → List ReportedOrder → Type 0
   Theirs n = AreAnswered source.program n questions.steps (asked_by questions)
@@ -63,11 +63,11 @@ module _ (questions : Questions) (text : List ℕ) (source : ParsedSource) (spel
       (part_in_turn (λ k w. IsTextOfProperties k (Theirs k) w) (λ k w. IsTextOfProperties k (AreFoundOfText questions text k) w) (λ k. text_so k (Theirs k) (AreFoundOfText questions text k) (found_of_text k))
       (questions.threads.last - questions.threads.first) questions.threads.first old new)
 
--- of names that are the same
+-- findings for equal names
 pub prints_asked : (p : Program) (steps : ℕ) (asked names : List IsAsked) (more first status : ℕ) (old new : Option (List ℕ)) → asked ≡ names → PrintsPropertiesInTurn (λ n. AreAnswered p n steps asked) more first status old new → PrintsPropertiesInTurn (λ n. AreAnswered p n steps names) more first status old new
 prints_asked p steps asked names more first status old new same = subst (λ xs. PrintsPropertiesInTurn (λ n. AreAnswered p n steps xs) more first status old new) same
 
--- ---- a status that tells nothing
+-- ---- a status that reports nothing
 
 pub tells_nothing : {threads : ℕ} (Are : WalkEnd → List Property → List ReportedOrder → Type 0) (status : ℕ) (old new : Option (List ℕ)) → status ≢ 0 → status ≢ 5 → TellsProperties threads Are status old new
 tells_nothing Are status old new zero five = record { held = λ e. absurd (zero e); failed = λ e. absurd (five e) }
@@ -82,7 +82,7 @@ refused_prints Are status old new is same = record {
   untouched = λ e. same;
 }
 
--- ---- what was printed
+-- ---- the output
 
 module _ (end : WalkEnd) (properties : List Property) (stuck : List ReportedOrder) where
   pub tells_these : (threads status : ℕ) (old new : Option (List ℕ)) (text : List ℕ) → text ≡ properties_text properties stuck threads end → Appends old new text → (status ≡ 0 → end ≡ Whole) → (status ≡ 0 → has_unheld properties ≡ false) → (status ≡ 0 → stuck ≡ []) → (status ≡ 5 → has_failed properties ≡ true) → TellsProperties threads (AreThese end properties stuck) status old new
@@ -99,11 +99,11 @@ module _ (end : WalkEnd) (properties : List Property) (stuck : List ReportedOrde
   pub text_of_these : (threads : ℕ) (text : List ℕ) → text ≡ properties_text properties stuck threads end → IsTextOfProperties threads (AreThese end properties stuck) text
   text_of_these threads text is = (properties, stuck, end, (refl, refl, refl), is)
 
-  -- what is so of these is so of what is told
+  -- a fact about the properties holds of the reports about them
   pub these_so : (Are : WalkEnd → List Property → List ReportedOrder → Type 0) → Are end properties stuck → (e : WalkEnd) (ps : List Property) (ss : List ReportedOrder) → AreThese end properties stuck e ps ss → Are e ps ss
   these_so Are are e ps ss same = subst (λ z. Are z ps ss) (sym same.0) (subst (λ x. Are end x ss) (sym same.1) (subst (Are end properties) (sym same.2) are))
 
--- ---- names that can be asked, and others
+-- ---- names that can be properties, and others
 
 module _ (p : Program) where
   each_askable : (last : Bool) (names : List (List ℕ)) → All (IsAskable p) names → AreAskable p (asked_each last names)
@@ -142,7 +142,7 @@ unaskable_text questions text source spelled accepted has = record {
   has = has;
 }
 
--- a fault of the number of threads, or of memory, is told by the status 4
+-- a fault of the number of threads, or of memory, is reported by the status 4
 pub not_unusable : (threads : ℕ) (f : MeaningFault) (status : ℕ) → IsFaultOfOrder threads [] f → (f ≡ fault.OutOfMemory → status ≡ 4) → (f ≡ fault.WrongThreads → status ≡ 4) → status ≢ 2
 not_unusable threads fault.OutOfMemory status is memory wrong = λ two. absurd (let e = memory refl in omega (arith, e, two))
 not_unusable threads fault.Stranger status is memory wrong = absurd (is.1 (λ k d below. absurd (omega (arith, below))))

@@ -1,4 +1,4 @@
--- Functions that can be asked, and names of which one can't be.
+-- Functions that can be properties, and names of which one can't be.
 use Rattle.std.proofs.Common.{◌≡◌, ◌∙◌, ◌&&◌, ℕ, ◌+◌, ◌<◌, ◌≤◌, Bool, true, false, IsTrue, List, [], ◌∷◌, All, map, length, drop, get_or, add-one, drop-cons, suc, Option, None, Some, is_some, refl, sym, ap, subst, arith}
 use Rattle.std.specs.Prelude.{◌↔◌, IfNone, IfSome, if◌then◌else◌, bytes_eq}
 use Rattle.std.proofs.lemmas.Bool.{false≢true}
@@ -23,7 +23,7 @@ drop_here xs i x e h = rw (add-one, drop-cons xs i x) (ap (λ y. y ∷ drop (suc
 pub drop_at : {X : Type 0} (xs : List X) (i : ℕ) (d : X) → i < length xs → drop i xs ≡ get_or xs i d ∷ drop (i + 1) xs
 drop_at xs i d h = rw (add-one, drop-cons xs i d) refl
 
--- ---- what is said of what may be missing
+-- ---- facts about options
 
 pub none_of : {X : Type 0} {Q : Type 0} (o : Option X) → o ≡ None → IfNone o Q → Q
 none_of None e q = q
@@ -45,7 +45,7 @@ pub not_empty : {X Y : Type 0} (see : X → Y) (xs : List X) (b : Bool) → (IsT
 not_empty see [] b iff is none = false≢true (sym is ∙ iff.1 refl)
 not_empty see (x ∷ xs) b iff is none = absurd (cc)
 
--- ---- the least set that keeps to the links tells which functions are irrevocable
+-- ---- the least set that keeps to the links decides which functions are irrevocable
 
 module _ (set : FunctionSet) where
   abbrev In : List ℕ → Type 0
@@ -76,7 +76,7 @@ tells_irrevocable p set h =
 
 -- ---- the definition of a name
 
--- an item that does not define it is passed over, and one that does is it
+-- an item that does not define it is skipped, and one that does is the definition
 module _ (x : List ℕ) (rest : Option (Function × Stmts)) (f : Function) where
   passed : (o : Option Stmts) (t : Bool) → bytes_eq f.name.text x ≡ t → (if is_some o && t then Some f else None) ≡ None → definition_or f x o rest ≡ rest
   passed None t is none = refl
@@ -125,7 +125,7 @@ module _ {A : Type 0} (see : A → Item) (items : List A) (i : ℕ) (item : A) (
 pub not_defined : {A : Type 0} (see : A → Item) (items : List A) (i : ℕ) (x : List ℕ) → length items ≤ i → definition_of (map see (drop i items)) x ≡ definition_of (map see items) x → definition_of (map see items) x ≡ None
 not_defined see items i x over before = sym before ∙ at_drop_all (λ ys. definition_of (map see ys) x) items i over
 
--- ---- what may be asked can be, and nothing else
+-- ---- functions that may be properties can be, and no others
 
 pub unknown : (p : Program) (x : List ℕ) → definition_of p x ≡ None → IsAskable p x → ⊥
 unknown p x none is = nothing (sym none ∙ is.defined)
@@ -159,10 +159,10 @@ module _ (p : Program) (set : FunctionSet) (tells : TellsIrrevocable p set) (x :
       not_in false e not = refl
       not_in true e not = absurd (not ((tells x).0 e))
 
--- ---- names one after another
+-- ---- one name after another
 
 module _ {X Y : Type 0} (P : Y → Type 0) (h : X → Y) (xs : List X) where
-  -- if this is so of the rest, it is so of all
+  -- if this holds of the rest, it holds of all
   abbrev pub AllIfRest : ℕ → Type 0
   AllIfRest n = All P (map h (drop n xs)) → All P (map h xs)
 

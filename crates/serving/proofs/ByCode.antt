@@ -1,4 +1,4 @@
--- What threads of a program show in an order, by its code.
+-- The report of a program's threads in an order, by its code.
 use Rattle.std.proofs.Common.{◌≡◌, ◌∙◌, ◌||◌, ◌<◌, ◌≤◌, ℕ, false, List, [], ◌∷◌, Some, get_or, length, map, take, refl, sym, ap, subst, arith}
 use Rattle.std.specs.List.{slice_get}
 use Rattle.std.proofs.lemmas.List.{length-map, take_all}
@@ -54,7 +54,7 @@ all_of_threads ks n xs all taken =
     let size = length-map (all_resting ks) told ∙ length-map ks rest_of in
     taken ∙ take_all n (map told (all_resting ks)) (omega (arith, size, all))
 
--- ---- what an order shows
+-- ---- the report of an order
 
 module _ (p : Program) (code : Code) (typed : IsTypedProgram p) (compiled : IsCodeOf p code) where
   -- threads are distinguished by each register
@@ -72,7 +72,7 @@ module _ (p : Program) (code : Code) (typed : IsTypedProgram p) (compiled : IsCo
   cells = ap cell_bounds (sym compiled.globals)
 
   module _ (threads : ℕ) (order : List ℕ) (first last : Memory) (ks : List AtomicThreadState) (is : first ≡ initial_of code) (c : ComesInOrder code first threads order last (all_resting ks)) where
-    -- where the code comes in the order the source does
+    -- the code reaches in the order what the source reaches
     rests_there : ShowsAtRest p threads order last (map told (all_resting ks))
     rests_there =
         let begin = subst (λ b. AllBegin (RestsLike no_likeness (effect code) b (beginning code)) 0 c.first) (sym cells) c.begin in

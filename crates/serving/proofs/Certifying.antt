@@ -27,7 +27,7 @@ use Rattle.serving.specs.inner.Serves.{ServesClaim, ServesVerdict}
 use Rattle.serving.proofs.Verdicts.{either_served, known_all, tells_nothing}
 use Rattle.std.specs.Prelude.{IfSome}
 
--- ---- a verdict by one report that is due is one by another
+-- ---- a verdict by one expected report is one by another
 
 module _ (IsDue Is : List ℕ → Type 0) (so : (text : List ℕ) → IsDue text → Is text) where
   says_due : (found w : List ℕ) → SaysSo IsDue found w → SaysSo Is found w
@@ -39,7 +39,7 @@ module _ (IsDue Is : List ℕ → Type 0) (so : (text : List ℕ) → IsDue text
   pub due_served : (Refuses : Type 0) (known : Option (List ℕ)) (status : ℕ) (old new : Option (List ℕ)) → ServesVerdict IsDue ⊥ known status old new → ServesVerdict Is Refuses known status old new
   due_served Refuses known status old new s = either_served (SaysSo IsDue) (ShowsDifference IsDue) (SaysSo Is) (ShowsDifference Is) says_due shows_due Refuses known status old new s
 
--- ---- a status that tells of no verdict
+-- ---- a status that reports no verdict
 
 pub no_claim_verdict : (claim : Claim) (listed report : Option (List ℕ)) (text : List ℕ) (status : ℕ) (old new : Option (List ℕ)) → status ≢ 0 → status ≢ 5 → CertifiesReport claim listed report text status old new
 no_claim_verdict claim None report text status old new zero five = tt
@@ -73,7 +73,7 @@ claim_served claim (Some bytes) report text order source status old new lists sp
 
 -- ---- the report of an order
 
--- an order that spends no thread leaves the same with any more ticks
+-- an order in which no thread is spent leaves the same with any more ticks
 spends_none : (p : Program) (count : ℕ) (order : List ℕ) (shown : Printed) (r : IsUnspentOrder p count order shown) → NoneIsSpent (told_in p count r.ticks order)
 spends_none p count order shown r = none_spent p count r.ticks order (subst (λ (x : Printed). has_spent x ≡ false) r.run.shows r.unspent)
 

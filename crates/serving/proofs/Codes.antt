@@ -15,6 +15,6 @@ compiles text c spelled compiled = record {
   compiled = compiled;
 }
 
--- which is accepted
+-- the program is accepted
 pub accepts : (text : List ℕ) (code : Code) → Compiles text code → Accepts text
 accepts text code c = record { source = c.source; spelled = c.spelled; accepted = c.accepted }

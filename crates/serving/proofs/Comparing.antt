@@ -1,4 +1,4 @@
--- What a status tells of outcomes that are compared.
+-- The meaning of a status for compared outcomes.
 use Rattle.std.proofs.Common.{◌≡◌, ◌≢◌, ◌∙◌, ◌⊎◌, inl, inr, ◌-◌, ◌<◌, ℕ, zero, suc, false, List, [], ◌∷◌, All, Contains, length, get_or, Option, Some, refl, sym, ap, subst, arith}
 use Rattle.std.specs.Prelude.{IfSome, codes, string_bytes}
 use Rattle.std.specs.Global.{Global}
@@ -34,7 +34,7 @@ use Rattle.serving.proofs.Refusals.{refused_text, unread_refused}
 use Rattle.serving.proofs.Printing.{serves_so}
 use Rattle.serving.proofs.Verdicts.{either_served, either_so, known_all, known_so, not_five, not_zero, prints_so, tells_nothing, tells_so}
 
--- ---- comparisons of which a status tells nothing
+-- ---- comparisons about which a status reports nothing
 
 module _ (c : Comparison) (other : Option (List ℕ)) (status : ℕ) (old new : Option (List ℕ)) where
   pub nothing_compared : (text : List ℕ) → status ≢ 0 → status ≢ 5 → ComparesOutcomes c other text status old new
@@ -59,7 +59,7 @@ pub lacks_code : (against : Against) (other : Option (List ℕ)) (text : List �
 lacks_code (Refined file) other text is = inl (refused_text text is)
 lacks_code (Expected file) other text is = refused_text text is
 
--- ---- by what outcomes are compared with
+-- ---- by the other side of the comparison
 
 module _ (c : Comparison) (file : String Global) (name text : List ℕ) (other : Option (List ℕ)) (same : name ≡ string_bytes file) where
   -- the meaning of a status and the text written, if outcomes are compared with those of a program of this name
@@ -88,7 +88,7 @@ module _ (c : Comparison) (file : String Global) (text : List ℕ) (other : Opti
   pub comparison_expected : (old new : Option (List ℕ)) → c.against ≡ Expected file → IfSome other (λ bytes. WritesPart (IsEither (SaysExpected (IsListEnding Whole c.threads.first text) bytes) (ShowsUnexpected (IsListEnding Whole c.threads.first text) bytes)) old new) → WritesComparison c other text old new
   comparison_expected old new is w = subst (λ a. IfSome other (λ bytes. WritesPart (AreEitherInTurn a c.threads text bytes) old new)) (sym is) w
 
--- ---- lists that are expected
+-- ---- expected lists
 
 module _ (Is IsWhole : List ℕ → Type 0) (so : (text : List ℕ) → Is text → IsWhole text) where
   expected_so : (bytes w : List ℕ) → SaysExpected Is bytes w → SaysExpected IsWhole bytes w
@@ -97,29 +97,29 @@ module _ (Is IsWhole : List ℕ → Type 0) (so : (text : List ℕ) → Is text 
   unexpected_so : (bytes w : List ℕ) → ShowsUnexpected Is bytes w → ShowsUnexpected IsWhole bytes w
   unexpected_so bytes w s = (s.0, s.1, so s.0 s.2, s.3, s.4)
 
-  -- the list that was compared is one
+  -- the compared list is one
   pub expected_served : (Refuses : Type 0) (known : Option (List ℕ)) (status : ℕ) (old new : Option (List ℕ)) → ServesExpected Is ⊥ known status old new → ServesExpected IsWhole Refuses known status old new
   expected_served Refuses known status old new s =
       either_served (SaysExpected Is) (ShowsUnexpected Is) (SaysExpected IsWhole) (ShowsUnexpected IsWhole) expected_so unexpected_so Refuses known status old new s
 
 module _ (IsAll : Type 0) (list expected : List ℕ) (status : ℕ) (old new : Option (List ℕ)) where
-  -- it was said that a list is the one that is expected, which is all
+  -- the output reports that a list is the expected one, which is complete
   pub expected_said : list ≡ expected → PrintsEither (λ (w : List ℕ). IsAll × (w ≡ codes "as expected\n")) (λ (w : List ℕ). ⊥) status old new → ServesExpected (λ t. IsAll × (t ≡ list)) ⊥ (Some expected) status old new
   expected_said same s =
       let said = prints_so (λ (w : List ℕ). IsAll × (w ≡ codes "as expected\n")) (λ (w : List ℕ). ⊥) (SaysExpected (λ t. IsAll × (t ≡ list)) expected) (ShowsUnexpected (λ t. IsAll × (t ≡ list)) expected)
       (λ w so. ((so.0, sym same), so.1)) (λ w no. absurd no) status old new s in
       serves_so said (λ says. says) (λ writes. writes)
 
-  -- the first line was printed in which a list differs that is all
+  -- the output is the first line in which a complete list differs
   pub unexpected_shown : (at : ℕ) (told : List ℕ) → IsFirstDifference expected list at → told ≡ difference_text (codes "expected") (codes "found") expected list at → PrintsEither (λ (w : List ℕ). ⊥) (λ (w : List ℕ). IsAll × (w ≡ told)) status old new → ServesExpected (λ t. IsAll × (t ≡ list)) ⊥ (Some expected) status old new
   unexpected_shown at told first is s =
       let shown = prints_so (λ (w : List ℕ). ⊥) (λ (w : List ℕ). IsAll × (w ≡ told)) (SaysExpected (λ t. IsAll × (t ≡ list)) expected) (ShowsUnexpected (λ t. IsAll × (t ≡ list)) expected)
       (λ w no. absurd no) (λ w so. (list, at, (so.0, refl), first, so.1 ∙ is)) status old new s in
       serves_so shown (λ says. says) (λ writes. writes)
 
--- ---- outcomes that are another program's
+-- ---- outcomes of another program
 
--- an order of a list, by what its report shows
+-- an order of a list, by its report
 one_with : (xs : List ReportedOrder) (k : ℕ) (shown d : Printed) → k < length (reports xs) → get_or (reports xs) k d ≡ shown → (u : ReportedOrder) × Contains xs u × (u.shown ≡ shown)
 one_with [] k shown d lt e = absurd (omega (arith, lt))
 one_with (x ∷ xs) zero shown d lt e = (x, (0, omega arith, refl), e)
@@ -131,7 +131,7 @@ of_all : {X : Type 0} (P : X → Type 0) (xs : List X) (x : X) → All P xs → 
 of_all P xs x all has = subst P has.2 (all has.0 x has.1)
 
 module _ (p : Program) (count : ℕ) (end : WalkEnd) (outcomes stuck : List ReportedOrder) (are : AreOutcomesOf p count end outcomes stuck) (whole : end ≡ Whole) where
-  -- each outcome shows what one of the list does
+  -- each outcome shows what one of the list shows
   pub is_listed : (o : ReportedOrder) → IsOutcomeOf p count o → Contains (reports outcomes) o.shown
   is_listed o is =
       let this = is.0.order in
@@ -175,7 +175,7 @@ module _ (p q : Program) (count : ℕ) (name : List ℕ) (end : WalkEnd) (outcom
   pub prints_refines : (status : ℕ) (old new : Option (List ℕ)) → PrintsEither Says Shows status old new → PrintsEither (SaysRefines name count p q) (ShowsBeyond name count p q) status old new
   prints_refines status old new s = prints_so Says Shows (SaysRefines name count p q) (ShowsBeyond name count p q) says_refines shows_beyond status old new s
 
--- what is told where both lists are whole
+-- the output if both lists are complete
 module _ (name : List ℕ) (threads : ℕ) (end : WalkEnd) (outcomes stuck : List ReportedOrder) (others_end : WalkEnd) (others : List ReportedOrder) (status : ℕ) (old new : Option (List ℕ)) (others_whole : others_end ≡ Whole) where
   abbrev pub Said : List ℕ → Type 0
   Said = SaysShown name threads end outcomes stuck others_end others

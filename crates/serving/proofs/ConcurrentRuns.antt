@@ -41,12 +41,12 @@ pub one_more_thread : (r : RunReport Global) (n : ℕ) (before after : List Thre
 one_more_thread r n before after t so_far this more =
     rw (add-one) (ap (map seen_of) more ∙ map-append seen_of before (t ∷ []) ∙ ap₂ (λ xs x. xs ++ x ∷ []) so_far this)
 
--- what is printed of threads that are seen is what the run leaves
+-- the printed threads are those that the run leaves
 pub is_left : {A : Type 0} (threads : ℕ) (left : RunLeft) (seen : List ThreadSeen) (globals : List (Shown A)) (holder : Option ℕ) → map seen_of seen ≡ threads_of_run left.ran threads → map shown_of globals ≡ map shown_of left.globals → holder ≡ held_by left.ran.memory → plain_report (map seen_of seen) (map shown_of globals) holder ≡ left_shown threads left
 is_left threads left seen globals holder e f h =
     ap₂ (λ (ts : List plain.ThreadShown) (gs : List plain.Shown). plain_report ts gs holder) e f
     ∙ ap (plain_report (threads_of_run left.ran threads) (map shown_of left.globals)) h
 
--- and that is what the report of the run shows
+-- and the report of the run shows them
 pub leaves : (p : Program) (threads : ℕ) (r : RunReport Global) (globals : List plain.Shown) → globals ≡ globals_left p r.memory → plain_report (threads_of_run r threads) globals (held_by r.memory) ≡ run_shown p threads r
 leaves p threads r globals e = ap (λ (gs : List plain.Shown). plain_report (threads_of_run r threads) gs (held_by r.memory)) e

@@ -17,17 +17,17 @@ pub any_shown : {A : Type 0} (p : End → Bool) (threads : List (ThreadShown A))
 any_shown p [] = refl
 any_shown p (t ∷ threads) = ap (λ b. p t.end || b) (any_shown p threads)
 
--- and so where their texts lie elsewhere
+-- also if their texts are stored elsewhere
 pub any_seen : (p : End → Bool) (threads : List ThreadSeen) → list_any (λ (t : plain.ThreadShown). p t.end) (map seen_of threads) ≡ list_any (λ (t : ThreadSeen). p t.end) threads
 any_seen p [] = refl
 any_seen p (t ∷ threads) = ap (λ b. p t.end || b) (any_seen p threads)
 
--- and so over outcomes
+-- also over outcomes
 pub any_outcome : {A : Type 0} (outcomes : List (ReportedOrder A)) → list_any (λ (o : lists.ReportedOrder). has_trapped o.shown) (map reported_of outcomes) ≡ list_any (λ (o : ReportedOrder A). has_trapped (reported_of o).shown) outcomes
 any_outcome [] = refl
 any_outcome (o ∷ outcomes) = ap (λ b. has_trapped (reported_of o).shown || b) (any_outcome outcomes)
 
--- where the status is 0 or 3 no thread has stopped
+-- if the status is 0 or 3, no thread has stopped
 none_by : (stopped trapped : Bool) (status : ℕ) → (status ≡ 0) ⊎ (status ≡ 3) → status ≡ (if stopped then 4 else if trapped then 3 else 0) → stopped ≡ false
 none_by false trapped status is e = refl
 none_by true trapped status (inl is) e = absurd (omega (arith, is, e))
@@ -40,7 +40,7 @@ none_stopped status shown is e = none_by (has_stopped shown) (has_trapped shown)
 pub status_shown : (shown : plain.Printed) (stopped trapped : Bool) (status : ℕ) → status ≡ (if stopped then 4 else if trapped then 3 else 0) → stopped ≡ has_stopped shown → trapped ≡ has_trapped shown → status ≡ exit_status shown
 status_shown shown stopped trapped status is e f = is ∙ ap₂ (λ s t. if s then 4 else if t then 3 else 0) e f
 
--- and it is neither that of a refusal nor more than where one has stopped
+-- it is not that of a refusal, and at most that of a stopped thread
 pub few_shown : (stopped trapped : Bool) (status : ℕ) → status ≡ (if stopped then 4 else if trapped then 3 else 0) → status ≤ 4
 few_shown true trapped status is = omega (arith, is)
 few_shown false true status is = omega (arith, is)

@@ -1,4 +1,4 @@
--- Every run has what is confirmed of all orders.
+-- Every run satisfies whatever is confirmed for all orders.
 use Rattle.std.proofs.Common.{◌≡◌, ◌∙◌, ℕ, ◌%◌, false, List, drop, get_or, map, sym, ap, subst, arith}
 use Rattle.lex.specs.Pieces.{IsLexed}
 use Rattle.lex.specs.Tokens.{Tok}
@@ -37,7 +37,7 @@ holds_behind p threads run is_run x always =
     let i : IsItsOrder p threads n.0 run = runs_are_orders left_as_many_as_found never_more_left goes_on p threads n.0 run is_run n.1 in
     subst (HoldsOf p x) i.memory (always (map (λ (s : Step). s.thread) run) n.0 (named threads run is_run.named))
 
--- and where the lock is free the words are what a run leaves
+-- if the lock is free, the words are also what a run leaves
 pub holds_in_world : (p : Program) (code : Code) (threads : ℕ) (steps x : List ℕ) → IsOpaque (effect code) (beginning code) (thread p) (bounds p) (initial_memory p) threads steps → AlwaysHolds p threads x → (world_after (effect code) (beginning code) (initial_memory p) threads steps).lock % 2 ≡ 0 → HoldsOf p x (world_after (effect code) (beginning code) (initial_memory p) threads steps).words
 holds_in_world p code threads steps x opaque always even =
     let w : World Configuration = world_after (effect code) (beginning code) (initial_memory p) threads steps in

@@ -29,11 +29,11 @@ apart : (a b : ℕ) → (a == b) ≡ false → a ≢ b
 apart a b e same = let t : true ≡ false = sym (eq-eqb a b same) ∙ e in cc
 
 module _ (z : TableId) (key : Setup) (w : World Configuration) (heard : List (List Heard)) (n : ℕ) where
-  -- this thread is the world's thread of this number
+  -- this thread is the world's thread with this number
   abbrev pub IsThread : Finished Global → Type 0
   IsThread f = (part : Part Configuration) × (slice_get w.parts n ≡ Some part) × (part.thread ≡ f.thread.thread)
 
-  -- so many steps have led the world's thread of this number to where its loop ended in this way
+  -- this many steps have led the world's thread with this number to where its loop ended in this way
   abbrev pub IsEnding : ℕ → Ending → Type 0
   IsEnding all e = (part : Part Configuration) × (slice_get w.parts n ≡ Some part) × (steps : ℕ) × (answers : List Heard)
       × StepsHearing (effect key.code) (first_thread key.code n) steps answers part.thread
@@ -111,7 +111,7 @@ module _ (z : TableId) (key : Setup) (w : World Configuration) (heard : List (Li
   here : (ws : List (Worker Global)) → HasWorkerFor ws n → NoWorker ws n → ⊥
   here ws (k, x, at, is) none = none k x at is
 
--- what a report shows of a thread of the run is its part in the world, and why its loop ended
+-- a report shows of a thread of the run its part in the world, and why its loop ended
 pub thread_shown : (does : Behaviour) (key : Setup) (budget : ℕ) (r : RunReport Global) (ran : Ran does key budget r) (n : ℕ) → n < key.threads → IsConcurrentThread key.code ran.closes.world budget n (thread_of_run r n)
 thread_shown does key budget r ran n lt = joined (thread_found z key w hs n ran.workers ran.are ran.closes.there) (ending_found z key w hs n budget ran.workers r.ends.items ran.are ran.closes.there ran.ends)
   where

@@ -16,7 +16,7 @@ use Rattle.serving.specs.inner.Serves.{PrintsInTurn, Serves}
 use Rattle.serving.proofs.Parts.{part_so}
 use Rattle.serving.proofs.ReplayRuns.{appends_more}
 
--- ---- what is said by one definition is said by another
+-- ---- an answer by one definition is one by another
 
 module _ (Says Now : (n status : ℕ) → (old new : Option (List ℕ)) → Type 0) (so : (n status : ℕ) (old new : Option (List ℕ)) → Says n status old new → Now n status old new) where
   pub says_so : (more n status : ℕ) (old new : Option (List ℕ)) → SaysInTurn Says more n status old new → SaysInTurn Now more n status old new
@@ -43,7 +43,7 @@ first_text : (IsText : ℕ → List ℕ → Type 0) (more n : ℕ) (text : List 
 first_text IsText zero n text is = is
 first_text IsText (suc more) n text is = inl is
 
--- ---- a text is written whole, and then more
+-- ---- a text is written completely, and then more
 
 -- a text of one number is written
 abbrev pub IsWritten : (IsText : ℕ → List ℕ → Type 0) → (n : ℕ) → (old new : Option (List ℕ)) → Type 0
@@ -66,7 +66,7 @@ module _ (most : ℕ) (Says : (n status : ℕ) → (old new : Option (List ℕ))
   abbrev pub One : (n status : ℕ) → (old new : Option (List ℕ)) → Type 0
   One n status old new = Serves most (Says n) ⊥ (WritesPart (IsText n)) status old new
 
-  -- what is served from a number on is served from the first on
+  -- an answer from a number on is an answer from the first on
   abbrev pub LeadsFrom : (first last at : ℕ) → (old now : Option (List ℕ)) → Type 0
   LeadsFrom first last at old now = (status : ℕ) (new : Option (List ℕ)) → PrintsInTurn most Says IsText (last - at) at status now new → PrintsInTurn most Says IsText (last - first) first status old new
 
@@ -109,7 +109,7 @@ module _ (most : ℕ) (Says : (n status : ℕ) → (old new : Option (List ℕ))
           let from_next = subst (λ n. PrintsInTurn most Says IsText (last - (at + 1)) n further new end) next rest in
           leads further end (subst (λ more. PrintsInTurn most Says IsText more at further now end) left (one_goes (last - (at + 1)) at further now new end (written now new this.answers) this from_next))
 
--- ---- the status 0 says that a text was written
+-- ---- the status 0 reports that a text was written
 
 pub properties_written : (AreFound : ℕ → WalkEnd → List Property → List ReportedOrder → Type 0) (n : ℕ) (old new : Option (List ℕ)) → TellsProperties n (AreFound n) 0 old new → IsWritten (λ k text. IsTextOfProperties k (AreFound k) text) n old new
 properties_written AreFound n old new tells =

@@ -1,4 +1,4 @@
--- A thread that has an attempt runs, after every list of steps.
+-- A thread that has an attempt is running, after every list of steps.
 use Rattle.std.proofs.Common.{◌≡◌, ◌≢◌, ◌⊎◌, inl, inr, ◌==◌, ◌%◌, ℕ, Bool, true, false, List, [], ◌∷◌, Option, None, Some, slice_get, set, refl, sym, ap, subst, ◌∙◌}
 use Rattle.std.specs.Prelude.{if◌then◌else◌}
 use Rattle.std.proofs.lemmas.Bool.Decides.{eqb_tells}
@@ -24,7 +24,7 @@ use Rattle.machine.specs.Worlds.{Part, World, answer, new_world, part_after, run
 use Rattle.machine.proofs.answers.Hearing.{no_attempt}
 use Rattle.machine.proofs.steps.Worlds.{get-set_other, get-set_same}
 
--- ---- a release ends the attempt, or is not done yet
+-- ---- a release ends the attempt, or is not complete yet
 
 abbrev EndsOrGoes : {S : Type 0} → CoreStep S → Type 0
 EndsOrGoes n = (n.attempt ≡ None) ⊎ (n.outcome ≡ outcome.Going)
@@ -63,7 +63,7 @@ module _ {C : Type 0} (code : C → Effect C) where
   RunsInside th = (a : Attempt C) → th.attempt ≡ Some a → th.status ≡ Running
 
   module _ (th : Thread C) (ans : Answer) where
-    -- an operation that is done ends the thread only at a trap
+    -- an operation that is complete ends the thread only at a trap
     after_done : (x : Effect C) → ((cause : Trap) → x ≡ Traps cause → ⊥) → status_after outcome.Done x th.status ≡ th.status
     after_done (Pure c) other = refl
     after_done (Print piece c) other = refl
@@ -179,7 +179,7 @@ module _ {C : Type 0} (code : C → Effect C) where
   run_inside [] w all = all
   run_inside (t ∷ ts) w all = run_inside ts (step code w t) (step_inside w t all)
 
-  -- a thread that is over has no attempt
+  -- a thread that has terminated has no attempt
   pub over_outside : (init : ℕ → C) (m0 : Memory) (threads : ℕ) (ts : List ℕ) (t : ℕ) (p : Part C) → slice_get (world_after code init m0 threads ts).parts t ≡ Some p → p.thread.status ≢ Running → p.thread.attempt ≡ None
   over_outside init m0 threads ts t p here over = by p.thread.attempt refl
     where

@@ -26,7 +26,7 @@ answered_as_they_are asked contents status old new none answer written refused u
   untouched = untouched;
 }
 
--- files with numbers are answered
+-- requests over files with numbers are answered
 pub answered_with_numbers : (asked : Asked) (contents numbered : Contents) (status : ℕ) (old new : Option (List ℕ)) → AreWithNumbers asked contents numbered → AnswersFiles asked.request numbered status old new → WritesForFiles asked.request numbered old new → (status ≡ 1 → RefusesSource asked.request numbered) → (status ≡ 1 → new ≡ old) → ServesAsked asked contents status old new
 answered_with_numbers asked contents numbered status old new are answer written refused untouched = inl (record {
   numbered = numbered;

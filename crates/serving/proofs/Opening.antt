@@ -1,4 +1,4 @@
--- What is served over files: of a text that was read from one, of one that was not read, and of one that was opened.
+-- Answers over files: for a text that was read, a file that was not read, and a file that was opened.
 use Rattle.std.proofs.Common.{◌≡◌, ◌≢◌, ◌∙◌, ◌⊎◌, inl, inr, ◌-◌, ◌≤◌, ℕ, List, Option, Some, None, subst, arith}
 use Rattle.std.specs.Prelude.{IfSome}
 use Rattle.command.specs.declared.request.Claim.{Claim}
@@ -46,10 +46,10 @@ module _ {IsOne : Type 0} (status : ℕ) where
   not_five (inr (inl two)) = λ z. absurd (omega (arith, two, z))
   not_five (inr (inr four)) = λ z. absurd (omega (arith, four, z))
 
--- ---- whatever is asked
+-- ---- any request
 
 module _ (most : ℕ) (Says : List ℕ → ℕ → Option (List ℕ) → Option (List ℕ) → Type 0) (Refuses : List ℕ → Type 0) (Writes : List ℕ → Option (List ℕ) → Option (List ℕ) → Type 0) where
-  -- what is served of a text is served of the file that it was read from
+  -- an answer for a text is an answer for the file from which it was read
   read : (bytes : Option (List ℕ)) (found text : List ℕ) (status : ℕ) (old new : Option (List ℕ)) → IfSome bytes (λ b. found ≡ b) → text ≡ found → ServesFile most Says Refuses Writes (Some text) status old new → ServesFile most Says Refuses Writes bytes status old new
   read None found text status old new is same s = record {
     within = s.within;
@@ -61,7 +61,7 @@ module _ (most : ℕ) (Says : List ℕ → ℕ → Option (List ℕ) → Option 
   read (Some b) found text status old new is same s =
       subst (λ t. ServesFile most Says Refuses Writes (Some t) status old new) (same ∙ is) s
 
-  -- nothing is told of a file that was not read, nor written for it
+  -- an answer for a file that was not read shows no verdict, and nothing is written for it
   module _ (nothing : (text : List ℕ) (status : ℕ) (old new : Option (List ℕ)) → status ≢ 0 → status ≢ 3 → status ≢ 5 → Says text status old new) (refuses : (text : List ℕ) → IsRefused text → Refuses text) (unchanged : (text : List ℕ) (old new : Option (List ℕ)) → new ≡ old → Writes text old new) (least : 4 ≤ most) where
     unread : (bytes : Option (List ℕ)) (status : ℕ) (old new : Option (List ℕ)) → (status ≡ 1) × IfSome bytes (λ b. IsRefused b) ⊎ (status ≡ 2) ⊎ (status ≡ 4) → new ≡ old → ServesFile most Says Refuses Writes bytes status old new
     unread None status old new is same = record {
@@ -93,7 +93,7 @@ module _ (task : Task) (schedule : Option (List ℕ)) where
   pub task_opened : (known file : Option (List ℕ)) (status : ℕ) (old new : Option (List ℕ)) → known ≡ file → ServesTask task schedule known status old new → ServesTask task schedule file status old new
   task_opened known file status old new same s = subst (λ k. ServesTask task schedule k status old new) same s
 
--- the schedule has the bytes that are known of it
+-- the schedule has the known bytes
 pub task_scheduled : (task : Task) (bytes schedule file : Option (List ℕ)) (status : ℕ) (old new : Option (List ℕ)) → schedule ≡ file → ServesTask task schedule bytes status old new → ServesTask task file bytes status old new
 task_scheduled task bytes schedule file status old new same s = subst (λ k. ServesTask task k bytes status old new) same s
 
@@ -134,11 +134,11 @@ module _ (c : Comparison) where
     pub comparison_opened : (known file : Option (List ℕ)) (status : ℕ) (old new : Option (List ℕ)) → known ≡ file → ServesComparison c other known status old new → ServesComparison c other file status old new
     comparison_opened known file status old new same s = subst (λ k. ServesComparison c other k status old new) same s
 
-  -- what they are compared with has the bytes of its file
+  -- the other side has the bytes of its file
   pub comparison_with : (bytes other file : Option (List ℕ)) (status : ℕ) (old new : Option (List ℕ)) → other ≡ file → ServesComparison c other bytes status old new → ServesComparison c file bytes status old new
   comparison_with bytes other file status old new same s = subst (λ k. ServesComparison c k bytes status old new) same s
 
--- ---- questions
+-- ---- properties
 
 module _ (questions : Questions) where
   pub questions_read : (bytes : Option (List ℕ)) (found text : List ℕ) (status : ℕ) (old new : Option (List ℕ)) → IfSome bytes (λ b. found ≡ b) → text ≡ found → ServesQuestions questions (Some text) status old new → ServesQuestions questions bytes status old new
@@ -154,7 +154,7 @@ module _ (questions : Questions) where
   pub questions_opened : (known file : Option (List ℕ)) (status : ℕ) (old new : Option (List ℕ)) → known ≡ file → ServesQuestions questions known status old new → ServesQuestions questions file status old new
   questions_opened known file status old new same s = subst (λ k. ServesQuestions questions k status old new) same s
 
--- ---- functions for every number of threads
+-- ---- properties for every number of threads
 
 module _ (coverage : Coverage) where
   pub coverage_read : (bytes : Option (List ℕ)) (found text : List ℕ) (status : ℕ) (old new : Option (List ℕ)) → IfSome bytes (λ b. found ≡ b) → text ≡ found → ServesCoverage coverage (Some text) status old new → ServesCoverage coverage bytes status old new

@@ -1,4 +1,4 @@
--- Beginnings of texts that are written.
+-- Prefixes of texts that are written.
 use Rattle.std.proofs.Common.{◌≡◌, ◌≢◌, ◌∙◌, ◌⊎◌, ◌+◌, ◌-◌, ◌<◌, ◌≤◌, ◌++◌, ◌∷◌, [], arith, ℕ, List, Option, None, Some, length, take, drop, get_or, inl, inr, ap, subst, sym, append_assoc, append-nil}
 use Rattle.std.specs.Prelude.{flat_map}
 use Rattle.std.proofs.Math.Seq.{take-add, take-append_seam}
@@ -8,7 +8,7 @@ use Rattle.std.specs.Io.KnownBytes.{Appends, Keeps}
 use Rattle.serving.specs.Written.{AppendsBeginning, WritesPart}
 use Rattle.serving.proofs.ReplayRuns.{appends_more}
 
--- more of a text is written, of what is left of it
+-- more of a text is written, from the rest of it
 pub part_more : (a b c : Option (List ℕ)) (n m : ℕ) (text : List ℕ) → Appends a b (take n text) → Appends b c (take m (take (length text - n) (drop n text))) → Appends a c (take (n + m) text)
 part_more a b c n m text p q =
     let rest = subst (λ (l : List ℕ). Appends b c (take m l)) (take_rest text n) q in
@@ -31,7 +31,7 @@ pub part_so : (IsSo Is : List ℕ → Type 0) (old new : Option (List ℕ)) → 
 part_so IsSo Is old new weaker (inl e) = inl e
 part_so IsSo Is old new weaker (inr w) = inr (w.0, weaker w.0 w.1, w.2)
 
--- the status of a text that is printed
+-- the status after a text was printed
 pub printed_within : (status : ℕ) → (status ≡ 0) ⊎ (status ≡ 4) → status ≤ 4
 printed_within status (inl ended) = omega (arith, ended)
 printed_within status (inr stopped) = omega (arith, stopped)
@@ -40,7 +40,7 @@ pub printed_unrefused : (status : ℕ) → (status ≡ 0) ⊎ (status ≡ 4) →
 printed_unrefused status (inl ended) = λ one. absurd (omega (arith, ended, one))
 printed_unrefused status (inr stopped) = λ one. absurd (omega (arith, stopped, one))
 
--- ---- pieces of a text, one behind another
+-- ---- pieces of a text, one after another
 
 module _ {X : Type 0} (bytes : X → List ℕ) where
   joined_more : (xs : List X) (i : ℕ) (x : X) → x ≡ get_or xs i x → i < length xs → flat_map bytes (take (i + 1) xs) ≡ flat_map bytes (take i xs) ++ bytes x
@@ -56,7 +56,7 @@ module _ {X : Type 0} (bytes : X → List ℕ) where
       ∙ ap (λ l. l ++ flat_map bytes (drop (i + 1) xs)) (joined_more xs i x at lt ∙ ap (λ l. flat_map bytes (take i xs) ++ l) (sym (take-append-drop k (bytes x))))
       ∙ four (flat_map bytes (take i xs)) (take k (bytes x)) (drop k (bytes x)) (flat_map bytes (drop (i + 1) xs))
 
-  -- a beginning of one more is written
+  -- a prefix of one more is written
   pub pieces_part : (a b c : Option (List ℕ)) (xs : List X) (i : ℕ) (x : X) → x ≡ get_or xs i x → i < length xs → Appends a b (flat_map bytes (take i xs)) → AppendsBeginning b c (bytes x) → AppendsBeginning a c (flat_map bytes xs)
   pieces_part a b c xs i x at lt p w =
       let begun = flat_map bytes (take i xs) ++ take w.0 (bytes x) in

@@ -1,4 +1,4 @@
--- What is served of a text where something of it was printed.
+-- Answers for a text after an output was printed.
 use Rattle.std.proofs.Common.{ℕ, List, Option}
 use Rattle.serving.specs.inner.Serves.{Serves}
 

@@ -1,4 +1,4 @@
--- What a status says of a text, and what it does not say of what was printed.
+-- The meaning of a status for a text, and for the output.
 use Rattle.std.proofs.Common.{◌≡◌, ◌≢◌, ◌-◌, ◌<◌, ◌⊎◌, inl, inr, ℕ, List, length, Option, Some, None, Result, Ok, Err, IsErr, refl, subst, sym, arith}
 use Rattle.std.specs.Prelude.{IfErr, IfSome}
 use Rattle.std.specs.Result.{IsErrAnd}
@@ -28,7 +28,7 @@ faulty text (Parse fault) is = is
 faulty text (Broken v) is = is
 faulty text (NoCode fault) is = absurd is
 
--- and is so where it is passed on
+-- also if it is passed on
 pub faulty_passed : {T : Type 0} (text : List ℕ) (fault : SourceFault) (r : Result T SourceFault) → IsErr r × IsErrAnd r (λ y. y ≡ fault) → IsFaultOfSource text fault → IfErr r (λ f. IsFaultOfText text f)
 faulty_passed text fault (Ok x) passed is = tt
 faulty_passed text fault (Err e) passed is = subst (IsFaultOfText text) (sym passed.1) (faulty text fault is)
@@ -42,7 +42,7 @@ uncoded text source fault spelled accepted is = record {
   because = is;
 }
 
--- a source that is refused is so for each task
+-- a refused source is refused for each task
 pub refused_text : (text : List ℕ) → IsRefused text → HasNoCode text
 refused_text text is = (is.0, faulty text is.0 is.1, is.2)
 
@@ -69,7 +69,7 @@ pub neither : (status : ℕ) → status ≢ 0 → status ≢ 3 → (status ≡ 0
 neither status zero three (inl e) = zero e
 neither status zero three (inr e) = three e
 
--- a status that tells of nothing printed answers each task
+-- a status that reports no output answers each task
 pub nothing_printed : (task : Task) (schedule : Option (List ℕ)) (text : List ℕ) (status : ℕ) (old new : Option (List ℕ)) → status ≢ 0 → status ≢ 3 → Answers task schedule text status old new
 nothing_printed (Check told) schedule text status old new zero three = λ e. absurd (zero e)
 nothing_printed Listing schedule text status old new zero three = λ e. absurd (zero e)
@@ -85,7 +85,7 @@ nothing_printed (Explore threads order always) schedule text status old new zero
 nothing_printed (Outcomes threads steps limit memory time traces) schedule text status old new zero three =
     stops (λ n s o w. PrintsOutcomes n text s o w) (threads.last - threads.first) threads.first status old new zero (λ e. absurd (neither status zero three e))
 
--- what the status 1 says there
+-- the meaning of the status 1 there
 pub unread_refused : {IsOne : Type 0} (status : ℕ) → (status ≡ 1) × IsOne ⊎ (status ≡ 2) ⊎ (status ≡ 4) → status ≡ 1 → IsOne
 unread_refused status (inl one) e = one.1
 unread_refused status (inr (inl two)) e = absurd (omega (arith, two, e))

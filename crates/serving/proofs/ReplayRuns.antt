@@ -63,7 +63,7 @@ replay_of_text threads steps schedule text c found slice made stop shown spelled
   replay = subst (λ (ls : List Line). IsReplayOf (program_of c.accepted.safe.typed.unit) c.code threads ls made stop shown) same replay;
 }
 
--- one whose steps were all made
+-- a replay whose steps were all made
 pub replays : (threads : ℕ) (steps : Steps) (schedule : Option (List ℕ)) (text : List ℕ) (code : Code) (made : List ℕ) (stop : Option WorldStop) (shown : Printed) → stop ≡ None → IsReplayOfText threads steps schedule text code made stop shown → Replays threads steps schedule text shown
 replays threads steps schedule text code made stop shown whole replay = record {
   code = code;
@@ -90,11 +90,11 @@ unfolding first_words
 words_counted zero g = refl
 words_counted (suc n) g = ap suc (words_counted n (pcg32 g).1)
 
--- rows that ask for few enough lines are a schedule
+-- rows that request few enough lines are a schedule
 pub lines_written : (rows : List (List ℕ)) (found slice : List Line) → slice ≡ found → counts found ≤ MOST_STEPS → AreRows rows slice → AreLines rows found
 lines_written rows found slice same few asked = (subst (λ (ls : List Line). AreRows rows ls) same asked, few)
 
--- rows that ask for the lines of a seed are a schedule
+-- rows that request the lines of a seed are a schedule
 pub lines_of : (seed threads count : ℕ) (rows : List (List ℕ)) (found slice : List Line) → found ≡ lines_of_seed seed threads count → slice ≡ found → count ≤ MOST_STEPS → AreRows rows slice → AreLines rows (lines_of_seed seed threads count)
 lines_of seed threads count rows found slice is same few asked =
     let words = first_words pcg32 count (generator_of seed) in
@@ -110,7 +110,7 @@ replays_drawn threads from steps schedule text code made stop shown svg whole re
   drawn = drawn;
 }
 
--- what is written behind other bytes
+-- text that is written after other bytes
 pub appends_more : (a b c : Option (List ℕ)) (bs cs : List ℕ) → Appends a b bs → Appends b c cs → Appends a c (bs ++ cs)
 appends_more None b c bs cs p q = tt
 appends_more (Some x) None c bs cs p q = absurd p

@@ -72,7 +72,7 @@ length_all r (suc k) =
     let ih : length (threads_of_run r k) ≡ k = length_all r k in
     omega (arith, e, ih)
 
--- the number after this one, and so many further on
+-- the number after this one, and this many further on
 abbrev beyond : ℕ → ℕ → ℕ
 beyond zero t = suc t
 beyond (suc j) t = suc (beyond j t)
@@ -112,7 +112,7 @@ any_no p [] i x none at = absurd (cc)
 any_no p (y ∷ ys) zero x none at = let is : y ≡ x = cc in ap p (sym is) ∙ (or_no (p y) (list_any p ys) none).0
 any_no p (y ∷ ys) (suc i) x none at = any_no p ys i x (or_no (p y) (list_any p ys) none).1 at
 
--- ---- a thread that is over does in the run what is shown of it
+-- ---- a thread that has terminated does in the run what is shown of it
 
 module _ (p : Program) (m0 : Memory) (run : List Step) (t : ℕ) (text : List ℕ) where
   abbrev DoesSo : ThreadShown → Type 0
@@ -135,12 +135,12 @@ module _ (p : Program) (m0 : Memory) (run : List Step) (t : ℕ) (text : List �
       )
   over Running s is = absurd (is refl)
 
--- a thread of the code stands in a run of the program, with the text that is shown
+-- a thread of the code is in a run of the program, with the text that is shown
 stands_so : (p : Program) (code : Code) (run : List Step) (t : ℕ) (printed text : List ℕ) (status : Status) → initial_of code ≡ initial_memory p → printed ≡ text → Stands (thread p) (initial_of code) run t printed status → Stands (thread p) (initial_memory p) run t text status
 stands_so p code run t printed text status same is s =
     subst (λ m. Stands (thread p) m run t text status) same (subst (λ x. Stands (thread p) (initial_of code) run t x status) is s)
 
--- how a thread that is over is shown after a run of all threads
+-- the end that is shown of a terminated thread after a run of all threads
 over_in_run : (s : Status) (stopped : Option Stop) → is_stopped (end_of_run s stopped) ≡ false → (s ≢ Running) × (end_of_run s stopped ≡ end_after_replay (end_of s))
 over_in_run Running None still = absurd (cc)
 over_in_run Running (Some stop.OutOfMemory) still = absurd (cc)
@@ -171,7 +171,7 @@ over_with (Some u) t s still =
 
 -- ---- the lock
 
--- a thread that is over has no attempt
+-- a thread that has terminated has no attempt
 free_by : (code : Code) (th : Thread Configuration) (s : Status) → IsStanding code th s → s ≢ Running → th.attempt ≡ None
 free_by code th Running i over = absurd (over refl)
 free_by code th HasEnded i over = i
@@ -190,7 +190,7 @@ module _ (z : TableId) (key : Setup) (w : World Configuration) (heard : List (Li
       (all.0.1.now, t.0, all.0.1.thread_is, all.0.1.of_code)
   thread_there (y ∷ ys) all t (suc k) x e = thread_there ys all.1 t.2 k x e
 
-  -- where all threads are over no worker has the lock
+  -- if all threads have terminated, no worker has the lock
   nobody : (ws : List (Worker Global)) (all : AreWorkersOf z key ws) → AreThere z key w heard ws all → ((n : ℕ) (p : Part Configuration) → slice_get w.parts n ≡ Some p → p.thread.status ≢ Running) → NoneHolds ws
   nobody ws all t over k x e =
       let at = thread_there ws all t k x e in
@@ -212,7 +212,7 @@ globals_are p (LockHeld n) ws cells last is nobody words = let f : true ≡ fals
 
 -- ---- a run of all threads at once
 
--- where the words are reported no worker has the lock
+-- if the words are reported, no worker has the lock
 none_holds : (m : RunMemory) (ws : List (Worker Global)) (cells : List ℕ) → IsMemoryOf m ws cells → held_by m ≡ None → NoneHolds ws
 none_holds (Words v) ws cells is free = is.1
 none_holds (LockHeld n) ws cells is free = let f : Some n ≡ None = free in absurd (cc)
@@ -230,14 +230,14 @@ module _ (p : Program) (code : Code) (threads budget : ℕ) (shown : Printed) (r
       let c : length shown.threads ≡ threads = counted in
       omega (arith, c, lt)
 
-  -- what is shown of a thread is what the run reports of it
+  -- the parts shown of a thread are those that the run reports of it
   is_reported : (t : ℕ) (this : ThreadShown) → slice_get shown.threads t ≡ Some this → thread_of_run r.report t ≡ this
   is_reported t this at = same_some _ this (sym (ap (λ ts. slice_get ts t) all_shown ∙ thread_at r.report threads t (within t this at)) ∙ at)
 
   pub no_run_events : shown.events ≡ None
   no_run_events = ap (λ (s : Printed). s.events) r.shows
 
-  -- where all threads are over, none has the lock
+  -- if all threads have terminated, none has the lock
   pub free_run : has_stopped shown ≡ false → shown.holder ≡ None
   free_run none =
       ap (λ (s : Printed). s.holder) r.shows
@@ -290,7 +290,7 @@ module _ (p : Program) (code : Code) (threads budget : ℕ) (shown : Printed) (r
 
 -- ---- a replay
 
--- a thread of this number, as it is shown
+-- a thread with this number, as it is shown
 abbrev shown_as : Option (ℕ × StopReason) → ℕ → Part Configuration → ThreadShown
 shown_as o n q = as_shown q.thread.text (end_after_replay (end_with o n q.thread.status))
 
@@ -336,7 +336,7 @@ serial_replay p code threads found made stopped shown compiled r free =
           ∙ ap (shown_globals (globals p)) (free_words (initial_of code) w es holder.0 x.held ∙ ap (λ m. last_memory m (run_of es)) same);
     }
 
--- where all threads of a replay are over, none has the lock
+-- if all threads of a replay have terminated, none has the lock
 pub free_replay : (p : Program) (code : Code) (threads : ℕ) (found : List Line) (made : List ℕ) (stopped : Option WorldStop) (shown : Printed) → IsReplayOf p code threads found made stopped shown → has_stopped shown ≡ false → shown.holder ≡ None
 free_replay p code threads found made stopped shown r none = by shown.holder refl
   where

@@ -39,7 +39,7 @@ element_at [] t lt = absurd (omega (arith, lt))
 element_at (x ∷ xs) zero lt = (x, refl)
 element_at (x ∷ xs) (suc t) lt = element_at xs t (omega (arith, lt))
 
--- no longer than what it begins with
+-- no longer than its prefix
 no_more : {X : Type 0} (xs ys more : List X) → ys ≡ xs ++ more → length ys ≤ length xs → ys ≡ xs
 no_more xs ys [] e le = e ∙ append-nil xs
 no_more xs ys (x ∷ more) e le =
@@ -47,7 +47,7 @@ no_more xs ys (x ∷ more) e le =
     let n : length (x ∷ more) ≡ suc (length more) = refl in
     absurd (omega (arith, l, n, le))
 
--- as many are left as are found
+-- as many remain as are found
 as_many : (ss : List Step) → length (map (λ (s : Step). s.left) ss) ≡ length (map (λ (s : Step). s.found) ss)
 as_many [] = refl
 as_many (s ∷ ss) = ap suc (as_many ss)
@@ -63,7 +63,7 @@ not_spent e still is = let f : true ≡ false = ap (λ x. is_stopped (order_end 
 
 -- ---- enough ticks for all threads
 
--- what leaves what the thread leaves in a run does so with more ticks
+-- with more ticks, a thread still leaves what it leaves in a run
 module _ (goes_on : GoesOn) (never_more : NeverMoreLeft) (p : Program) (run : List Step) where
   pub leaves_more : (t n k : ℕ) → (thread p t (founds_of t run) n).lefts ≡ lefts_of t run → (thread p t (founds_of t run) (n + k)).lefts ≡ lefts_of t run
   leaves_more t n k l =
@@ -76,7 +76,7 @@ module _ (goes_on : GoesOn) (never_more : NeverMoreLeft) (p : Program) (run : Li
       no_more (thread p t (founds_of t run) n).lefts (thread p t (founds_of t run) (n + k)).lefts g.further more (omega (arith, few, all, here)) ∙ l
 
 module _ (more_ticks : MoreTicks) (goes_on : GoesOn) (never_more : NeverMoreLeft) (p : Program) (threads : ℕ) (shown : Printed) (s : IsSerial p threads shown) where
-  -- with so many ticks the thread leaves what it leaves in the run, and does what is shown of it where it is over
+  -- with this many ticks the thread leaves what it leaves in the run, and does what is shown of it if it has terminated
   abbrev Leaves : ℕ → ℕ → Type 0
   Leaves t n = (thread p t (founds_of t s.run) n).lefts ≡ lefts_of t s.run
 
@@ -164,7 +164,7 @@ module _ (more_ticks : MoreTicks) (goes_on : GoesOn) (never_more : NeverMoreLeft
         i.count,
       )
 
-  -- where all threads are over, all that is shown is what the order shows
+  -- if all threads have terminated, the order shows everything that is shown
   pub an_order : RunsAreOrders → has_stopped shown ≡ false → shown.holder ≡ None → (ticks : ℕ) × (order : List ℕ) × IsOrderOf p threads ticks order (behind_events shown)
   an_order runs_are_orders none holder =
       let l = some_order runs_are_orders in

@@ -6,7 +6,7 @@ use Rattle.report.specs.Printed.{Shown}
 use Rattle.serving.specs.Shows.{shown_global, shown_globals}
 use Rattle.serving.specs.inner.Words.{words_beyond}
 
--- from an element on: the element, and what follows it
+-- from an element on: the element, and its successors
 pub drop_here : {X : Type 0} (xs : List X) (i : ℕ) (x : X) → x ≡ get_or xs i x → i < length xs → drop i xs ≡ x ∷ drop (i + 1) xs
 drop_here xs i x e h = rw (add-one, drop-cons xs i x) (ap (λ y. y ∷ drop (suc i) xs) (sym e))
 
@@ -17,7 +17,7 @@ next_global view gs i g before now whole words e h was new =
     let at_here = rw split at was in
     rw (new, append_assoc before) at_here
 
--- the words beyond one more global's
+-- the words after one more global's
 pub next_rest : {X : Type 0} (view : X → Global) (gs : List X) (i : ℕ) (g : X) (words whole : List ℕ) → g ≡ get_or gs i g → i < length gs → words_beyond (map view (drop i gs)) words ≡ whole → words_beyond (map view (drop (i + 1) gs)) (drop (cells (view g)) words) ≡ whole
 next_rest view gs i g words whole e h was = let split = drop_here gs i g e h in rw split at was
 

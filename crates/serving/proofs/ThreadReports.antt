@@ -1,4 +1,4 @@
--- What is shown of reported threads.
+-- The contents of threads' reports.
 use Rattle.std.proofs.Common.{◌≡◌, ◌∙◌, ℕ, List, [], ◌∷◌, map, refl, ap, ap₂}
 use Rattle.syntax.specs.Behaviours.{Outcome}
 use Rattle.meaning.specs.InOrder.{report_in, text_and_end}
@@ -26,7 +26,7 @@ outcomes-by-parts (o ∷ os) = ap (λ t. thread_shown o ∷ t) (outcomes-by-part
 pub reports_shown : {A : Type 0} (rs : List (ThreadReport A)) (os : List Outcome) → map report_in rs ≡ map text_and_end os → map report_shown rs ≡ map thread_shown os
 reports_shown rs os same = reports-by-parts rs ∙ ap (map text_and_end_shown) same ∙ outcomes-by-parts os
 
--- what is shown of an outcome is what a report shows of threads in this order
+-- the contents of an outcome's report are those of a report on threads in this order
 pub order_shown_of : {A : Type 0} (p : Program) (count ticks : ℕ) (order : List ℕ) (o : SourceOutcome A) (shown : Printed) → NamesThreads count order → IsInOrder p count ticks order o → shown ≡ program_shown p (map report_shown o.threads.items) o.memory.items → IsOrderOf p count ticks order shown
 order_shown_of p count ticks order o shown named run shows = record {
   named = named;

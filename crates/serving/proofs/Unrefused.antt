@@ -1,4 +1,4 @@
--- An accepted program within the depth is not refused, but for a limit of code.
+-- An accepted program within the depth is not refused, except for a limit of code.
 use Rattle.std.proofs.Common.{◌≡◌, ◌∙◌, ◌<◌, ◌≤◌, inl, inr, ℕ, List, [], ◌∷◌, ◌++◌, Some, None, true, is_some, codes, append_assoc, subst, sym, arith}
 use Rattle.std.proofs.Math.Logic.{∥∥₁_elim}
 use Rattle.std.proofs.lemmas.Bool.{false≢true}
@@ -35,7 +35,7 @@ use Rattle.serving.proofs.ListedOutcomes.{one_source}
 use Rattle.lower.specs.Answers as lower
 use Rattle.lower.specs.declared.fault.LowerFault.{LowerFault}
 
--- a program that is spelled begins with the tokens up to each of its own
+-- the tokens of a program begin with those up to each token
 abbrev begins : (s : ParsedSource) (ts before : List Tok) (token : Tok) (after : List Tok) → Spells s ts → ts ≡ before ++ token ∷ after → Begins Spells (before ++ token ∷ [])
 begins s ts before token after is whole = record {
   value = s;
@@ -55,13 +55,13 @@ spelled ts s (syntactic.Unfinished at) is few wrong placed = wrong.not s is
 nothing_is : {A : Type 0} (x : A) → None ≡ Some x → ⊥
 nothing_is x e = cc
 
--- a typed program has no unmet demand, wherever its last token ends
+-- a typed program violates no demand, wherever its last token ends
 typed : (end : ℕ) (p : Program) (x : ℕ × Span) → IsTypedProgram p → Some x ≡ first_unmet (Meets end p) → ⊥
 typed end p x met first =
     nothing_is x (met_anywhere (AreTypedItems [] p ++ AreDefined p [] p) 28 (record { start = 0; end = 0 }) (record { start = end; end = end }) (is_worker (file_scope p (codes "worker"))) (none_unmet (Meets 0 p) met) ∙ sym first)
 
 module _ (one_tokens : (text : List ℕ) (ts us : List Tok) → IsLexed text ts → IsLexed text us → ts ≡ us) (no_fault : (text : List ℕ) (ts : List Tok) (f : LexFault) → IsLexed text ts → IsFirst text f → ⊥) (one_tree : (ts : List Tok) (a b : ParsedSource) → Spells a ts → Spells b ts → a ≡ b) (is_safe : SafeHasNoFault) (touches : FaultTouches) where
-  -- a text with tokens has no fault of the lexer
+  -- a text with tokens has no lexical fault
   lexed : (text : List ℕ) (ts : List Tok) (fault : LexFault) → IsLexed text ts → IsFault text fault → is_some (lex.span_of fault) ≡ true → ⊥
   lexed text ts lexical.OutOfMemory is wrong placed = false≢true placed
   lexed text ts lexical.FileTooLong is wrong placed = let short = is.short in omega (arith, short, wrong)
@@ -71,7 +71,7 @@ module _ (one_tokens : (text : List ℕ) (ts us : List Tok) → IsLexed text ts 
   lexed text ts (lexical.BadString s) is wrong placed = no_fault text ts (lexical.BadString s) is wrong
   lexed text ts (lexical.Directive s) is wrong placed = no_fault text ts (lexical.Directive s) is wrong
 
-  -- the text of an accepted program within the depth has no fault of the source at a place
+  -- the text of an accepted program within the depth has no fault of the source at a position
   source_right : (text : List ℕ) (is : Accepts text) → source_depth is.source ≤ deepest_program → (fault : SourceFault) → IsFaultOfSource text fault → is_some (span_of_source fault) ≡ true → ⊥
   source_right text is few OutOfMemory wrong placed = false≢true placed
   source_right text is few (Lex fault) wrong placed = lexed text is.spelled.tokens fault is.spelled.lexed wrong placed

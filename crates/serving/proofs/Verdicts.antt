@@ -1,4 +1,4 @@
--- Verdicts: whether something is so or not, and what is known of a file of which it is asked.
+-- Verdicts: whether something holds or not, and the known bytes of the file that it is about.
 use Rattle.std.proofs.Common.{◌≡◌, ◌≢◌, ◌∙◌, ◌⊎◌, ◌≤◌, inl, inr, ℕ, List, Option, Some, None, subst, arith}
 use Rattle.std.specs.Prelude.{IfSome}
 use Rattle.std.specs.Io.KnownBytes.{Appends}
@@ -27,7 +27,7 @@ module _ (S N T M : List ℕ → Type 0) (one : (w : List ℕ) → S w → T w) 
   pub prints_so : (status : ℕ) (old new : Option (List ℕ)) → PrintsEither S N status old new → PrintsEither T M status old new
   prints_so status old new s = serves_so s (tells_so status old new) (writes_so old new)
 
--- ---- a status that tells of none
+-- ---- a status that reports no verdict
 
 pub tells_nothing : (S N : List ℕ → Type 0) (status : ℕ) (old new : Option (List ℕ)) → status ≢ 0 → status ≢ 5 → Tells S N status old new
 tells_nothing S N status old new no_zero no_five = record { so = λ e. absurd (no_zero e); not_so = λ e. absurd (no_five e) }
@@ -52,7 +52,7 @@ pub at_most_five : (status : ℕ) → (status ≡ 2) ⊎ (status ≡ 4) → stat
 at_most_five status (inl e) = omega (arith, e)
 at_most_five status (inr e) = omega (arith, e)
 
--- ---- what is known of a file
+-- ---- the known bytes of a file
 
 pub known_so : (P Q : List ℕ → Type 0) → ((bytes : List ℕ) → P bytes → Q bytes) → (known : Option (List ℕ)) → IfSome known P → IfSome known Q
 known_so P Q so None p = tt
@@ -66,7 +66,7 @@ pub known_is : (P : List ℕ → Type 0) (known : Option (List ℕ)) (found take
 known_is P None found taken is same p = tt
 known_is P (Some bytes) found taken is same p = subst P (same ∙ is) p
 
--- or something else is so
+-- or another fact holds
 pub known_or : (X : Type 0) (P : List ℕ → Type 0) (known : Option (List ℕ)) (found taken : List ℕ) → IfSome known (λ bytes. found ≡ bytes) → taken ≡ found → X ⊎ P taken → X ⊎ IfSome known P
 known_or X P known found taken is same (inl x) = inl x
 known_or X P known found taken is same (inr p) = inr (known_is P known found taken is same p)
@@ -74,7 +74,7 @@ known_or X P known found taken is same (inr p) = inr (known_is P known found tak
 -- ---- a verdict on its bytes
 
 module _ (S N : List ℕ → List ℕ → Type 0) where
-  -- these were read
+  -- these bytes were read
   pub either_known : (known : Option (List ℕ)) (found taken : List ℕ) (status : ℕ) (old new : Option (List ℕ)) → IfSome known (λ bytes. found ≡ bytes) → taken ≡ found → ServesEither S N ⊥ (Some taken) status old new → ServesEither S N ⊥ known status old new
   either_known None found taken status old new is same s = record {
     within = s.within;
@@ -85,7 +85,7 @@ module _ (S N : List ℕ → List ℕ → Type 0) where
   }
   either_known (Some bytes) found taken status old new is same s = subst (λ b. ServesEither S N ⊥ (Some b) status old new) (same ∙ is) s
 
-  -- there is none, and nothing is written
+  -- there are no bytes, and nothing is written
   pub either_untold : (known : Option (List ℕ)) (status : ℕ) (old new : Option (List ℕ)) → (status ≡ 2) ⊎ (status ≡ 4) → new ≡ old → ServesEither S N ⊥ known status old new
   either_untold known status old new is same = record {
     within = at_most_five status is;
@@ -107,7 +107,7 @@ module _ (S N T M : List ℕ → List ℕ → Type 0) (one : (b w : List ℕ) �
   }
   either_served Refuses (Some b) status old new s = serves_so s (tells_so (S b) (N b) (T b) (M b) (one b) (other b) status old new) (writes_so (S b) (N b) (T b) (M b) (one b) (other b) old new)
 
--- a text is printed that says that it is so
+-- a text is printed that reports that it holds
 pub prints_text : (S N : List ℕ → Type 0) (text : List ℕ) (status : ℕ) (old new : Option (List ℕ)) → S text → (status ≡ 0) ⊎ (status ≡ 4) → (status ≡ 0 → Appends old new text) → AppendsBeginning old new text → PrintsEither S N status old new
 prints_text S N text status old new so is printed part = record {
   within = let most = printed_within status is in omega (arith, most);

@@ -15,7 +15,7 @@ module _ (Says : (threads status : ℕ) → (old new : Option (List ℕ)) → Ty
   abbrev pub SaysOfRange : ThreadRange → (status : ℕ) → (old new : Option (List ℕ)) → Type 0
   SaysOfRange range status old new = SaysInTurn (range.last - range.first) range.first status old new
 
--- texts for a number of threads, and for some of so many numbers after it, one after another
+-- texts for a number of threads, and for some of this many numbers after it, one after another
 module _ (IsText : (threads : ℕ) → List ℕ → Type 0) where
   abbrev pub AreTextsInTurn : (more threads : ℕ) → List ℕ → Type 0
   AreTextsInTurn zero threads written = IsText threads written

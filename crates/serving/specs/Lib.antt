@@ -1,4 +1,4 @@
--- words that are no request
+-- words that are not a request
 pub mod Usage
 -- the meaning of a status for a report
 pub mod Reports

@@ -24,7 +24,7 @@ abbrev pub IsFaultOfText : List ℕ → SourceFault → Type 0
 IsFaultOfText text (NoCode fault) = PassesLimit text fault
 IsFaultOfText text fault = IsFaultOfSource text fault
 
--- the meaning of a fault for a text and for so many threads in all orders: these are checked last
+-- the meaning of a fault for a text and for this many threads in all orders: these are checked last
 abbrev pub IsFaultInOrders : (text : List ℕ) → (threads : ℕ) → OrderFault → Type 0
 IsFaultInOrders text threads (Source fault) = IsFaultOfText text fault
 IsFaultInOrders text threads (Order fault) = Accepts text × IsFaultOfOrder threads [] fault

@@ -34,7 +34,7 @@ IsSource request name = IsSomeAnd (sources_of request) (λ s. (name ≡ s.0) ⊎
 abbrev pub read_of : List ℕ → List ℕ
 read_of bytes = take (MOST_BYTES + 1) bytes
 
--- a text with numbers in place of names; what is no text stays as it is
+-- a text with numbers in place of names; bytes that are not text stay the same
 pub record IsWithNumbers (ds : List Definition) (bytes new : List ℕ) : Type 0 where
   pub of_text : IsUtf8 bytes → IsPutIn ds bytes new
   pub no_text : (IsUtf8 bytes → ⊥) → new ≡ bytes

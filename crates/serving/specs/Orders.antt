@@ -14,7 +14,7 @@ use Rattle.serving.specs.Checks.{IsSourceOf}
 use Rattle.serving.specs.Reports.{has_spent, is_stopped}
 use Rattle.serving.specs.Shows.{order_shown, shown_globals, thread_shown}
 
--- what a report shows of so many threads in an order, each with so many ticks
+-- what a report shows of this many threads in an order, each with this many ticks
 pub record IsOrderOf (p : Program) (count ticks : ℕ) (order : List ℕ) (shown : Printed) : Type 0 where
   pub named : NamesThreads count order
   pub shows : shown ≡ order_shown p (in_order (thread p) (initial_memory p) count ticks order)
@@ -25,7 +25,7 @@ pub record IsUnspentOrder (p : Program) (count : ℕ) (order : List ℕ) (shown 
   pub run : IsOrderOf p count ticks order shown
   pub unspent : has_spent shown ≡ false
 
--- likewise, each with so many ticks, or with as many as it takes if none are given
+-- likewise, each with this many ticks, or with as many as it takes if none are given
 abbrev pub IsOrderWith : Program → (count : ℕ) → (ticks : Option ℕ) → (order : List ℕ) → Printed → Type 0
 IsOrderWith p count (Some ticks) order shown = IsOrderOf p count ticks order shown
 IsOrderWith p count None order shown = IsUnspentOrder p count order shown
@@ -48,10 +48,10 @@ pub record RunsInSomeOrder (count : ℕ) (text : List ℕ) (shown : Printed) : T
   pub order : List ℕ
   pub in_order : RunsInOrder count ticks order text shown
 
--- In some order, each with some number of ticks, so many threads leave the globals shown; and each thread that is shown
--- to have ended or trapped shows this there. The order is that of a run of the source, and each thread, even one that
--- still runs, has printed what the source's thread prints in that run with some number of ticks of its own, on the
--- memories that it finds there, and on the last one if it is inside a transaction.
+-- In some order, each with some number of ticks, this many threads leave the globals shown. Each thread that is shown to
+-- have ended or trapped shows this there. The order is that of a run of the source. Each thread, even one that still
+-- runs, has printed what the source's thread prints in that run with some number of ticks of its own, on the memories
+-- that it finds there, and on the last one if it is inside a transaction.
 pub record LeavesSomeOrder (p : Program) (count : ℕ) (shown : Printed) : Type 0 where
   pub ticks : ℕ
   pub order : List ℕ

@@ -45,7 +45,7 @@ IsSchedule schedule found = IfSome schedule (λ text. AreLines (lines text) foun
 abbrev pub lines_of_seed : (seed threads count : ℕ) → List Line
 lines_of_seed seed threads count = map (λ w. one_step (w % threads)) (first_words pcg32 count (generator_of seed))
 
--- these lines make the turns of an order of so many threads, in no more steps than a replay may make
+-- these lines make the turns of an order of this many threads, in no more steps than a replay may make
 pub record AreTurnsOf (code : Code) (threads : ℕ) (order : List ℕ) (found : List Line) : Type 0 where
   pub among : IsOrderAmong threads order
   pub few : counts found ≤ MOST_STEPS

@@ -72,8 +72,8 @@ run_shown p threads r = record {
   holder = held_by r.memory;
 }
 
--- A report shows of the thread of this number its text and its end in the world that the run led to. So many steps of
--- its own, no more than its budget, have led it there. It made no further step because of what stopped its loop; if
+-- A report shows the text of the thread with this number, and its end in the world that the run led to. A number of its
+-- own steps, no more than its budget, has led it there. It made no further step because of what stopped its loop; if
 -- nothing did, it has terminated, or all steps of its budget are made.
 pub record IsConcurrentThread (code : Code) (w : World Configuration) (budget n : ℕ)
     (shown : ThreadShown) : Type 0 where
@@ -86,8 +86,8 @@ pub record IsConcurrentThread (code : Code) (w : World Configuration) (budget n 
   pub because : EndsBy stopped code part.thread budget steps
   pub shows : shown ≡ record { end = end_of_run part.thread.status stopped; text = part.thread.text }
 
--- what a report shows of so many threads of this code at once, each with so many steps at most: their run is one of the
--- program, and each thread is shown as it is in that run
+-- what a report shows of this many threads of this code at once, each with at most this many steps: their run is one of
+-- the program, and each thread is shown as it is in that run
 pub record IsConcurrentRun (p : Program) (code : Code) (threads budget : ℕ) (shown : Printed) : Type 0 where
   pub report : RunReport Global
   pub ran : Ran (thread p) (record { code = code; threads = threads }) budget report

@@ -1,4 +1,4 @@
--- The response to words that are no request.
+-- The response to words that are not a request.
 use Rattle.command.specs.declared.request.UsageFault.{UsageFault}
 use Rattle.command.specs.declared.request.UsageFault.TheVariants.{Help, Wrong}
 

@@ -37,11 +37,11 @@ pub fn accepted_programs_are_opaque()
     threads_leave_memories();
 }
 
-/// Every run prints what an order prints. If each thread has ended or trapped, a run of all threads at once shows just
-/// what the source's threads show in some order of whole transactions, with some number of ticks, and so does a replay
-/// after its events. If threads of either still run, but none has the lock, the globals are those that some order
-/// leaves, each thread that has ended or trapped shows what it shows there, and one that still runs has printed what
-/// the source's thread prints in that order with some number of ticks of its own.
+/// Every run prints what an order prints. Suppose that each thread has ended or trapped. Then a run of all threads at
+/// once shows exactly what the source's threads show in some order of whole transactions, with some number of ticks. A
+/// replay's report shows the same after its events. Now suppose that threads of either still run, but none has the
+/// lock. Then some order leaves the globals. Each thread that has ended or trapped shows what it shows there. Any other
+/// thread has printed what the source's thread prints in that order with some number of ticks of its own.
 pub fn reports_are_orders()
     ensures runs { ConcurrentRunsAreOrders }
     ensures replays { ReplaysAreOrders }
@@ -53,8 +53,8 @@ pub fn reports_are_orders()
     threads_leave_memories();
 }
 
-/// A list of all outcomes has every report. If all outcomes of a source were listed, whatever its threads show in some
-/// order, with any number of ticks, is in the list, if each of them has ended or trapped. The list also has what a run
+/// A list of all outcomes has every report. If all outcomes of a source were listed, the list has whatever its threads
+/// show in some order, with any number of ticks, if each of them has ended or trapped. The list also has what a run of
 /// of all threads at once shows: `reports_are_orders` states that this is what an order shows.
 pub fn orders_are_listed()
     ensures { OrdersAreListed }
@@ -78,8 +78,8 @@ pub fn orders_are_replays()
 {}
 
 /// Every run keeps the invariants that `--always` confirms. A function that holds of the memory that each order leaves
-/// holds of shared memory whenever the lock is free: in every world that steps of the machine lead to, and so, by the
-/// rule of `shared_words`, between any two atomic steps of real threads. While a thread has the lock, it may have
+/// also holds of shared memory whenever the lock is free: in every world that steps of the machine lead to, and so, by
+/// the rule of `shared_words`, between any two atomic steps of real threads. While a thread has the lock, it may have
 /// stored a part of what its transaction leaves, so nothing is stated about that time.
 pub fn properties_hold_in_every_world()
     ensures worlds { PropertiesHoldInWorlds }

@@ -201,7 +201,7 @@ fn holder_of(memory: &RunMemory) -> Option<u32>
     }
 }
 
-/// What is shown of this many threads, by their numbers.
+/// The parts of a report about this many threads, by their numbers.
 fn threads_seen(
     alloc: Global,
     count: u32,
@@ -224,7 +224,7 @@ fn thread_seen(number: u32, ran: &RunReport) -> ThreadSeen<'_>
     finished_seen(stopped, thread_numbered(ran.threads.as_slice(), number))
 }
 
-/// What is shown of a thread after a run, if there is one, with the text that it has.
+/// The part of a report about a thread after a run, if there is one, with the text that it has.
 fn finished_seen(stopped: Option<Stop>, thread: Option<&Finished>) -> ThreadSeen<'_>
     ensures { seen_of result ≡ spec.finished_shown stopped (option_map (λ f. f.now) thread.entry) }
 {

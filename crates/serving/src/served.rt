@@ -16,20 +16,23 @@ use std::io::{Read, Write};
 use std::sync::Wait;
 use std::thread::Threads;
 
-/// Does what is asked over three readers and two writers, and gives the exit status.
+/// Answers a request over three readers and two writers, and returns the exit status.
 ///
-/// The source's text is read from `source`, a schedule, or an order that is listed, from `schedule`, once the source has
-/// code or is accepted, and a report from `report`, once the source has run; from there too what its outcomes are
-/// compared with, a list once they are found, or the source of another program. The report, the list of outcomes,
-/// `accepted`, `certified` or the line in which a report differs, what outcomes are compared to, or what a fault means
-/// goes to `out`, and faults to `err`; what `err` does not take is lost. Where `err` is a terminal, or the words ask for
-/// it, the line of the source or of the schedule follows its fault. The status is 0 where all threads ended, all outcomes
-/// were listed, outcomes are those of another program or of a list, all properties hold, the source is accepted, a report
-/// is certified or a fault is explained, 1 where a source is refused and nothing is printed, 2 where one of the readers
-/// cannot be read, the source or the schedule is not UTF-8, the schedule or an order is refused, a function may not be
-/// asked, or the words are of no use, 3 where a thread trapped, in a run or in some outcome, 4 where one did neither,
-/// there may be more outcomes, a step was not made, or memory or `out` was refused, and 5 where a report is another, or
-/// outcomes are, or a property fails.
+/// The source's text is read from `source`. A schedule or a listed order is read from `schedule`, once the source has
+/// code or is accepted. A report is read from `report`, once the source has run. The other side of a comparison is also
+/// read from `report`: a list once the outcomes are found, or the source of another program.
+///
+/// Output goes to `out`, and faults go to `err`. Text that `err` does not take is lost. The source line or the schedule
+/// line of a fault follows it if `err` is a terminal, or if the words request it. The status is:
+/// - 0 if all threads ended, all outcomes were listed, a comparison or all properties hold, the source is accepted, a
+///   report is certified, or a fault is explained;
+/// - 1 if a source is refused and nothing is printed;
+/// - 2 if a reader cannot be read, the source or the schedule is not UTF-8, the schedule or an order is refused, a
+///   function may not be a property, or the words are unusable;
+/// - 3 if a thread trapped, in a run or in some outcome;
+/// - 4 if a thread neither ended nor trapped, there may be more outcomes, a step was not made, an allocation failed, or
+///   `out` could not be written;
+/// - 5 if a report differs, a comparison shows a difference, or a property fails.
 pub fn serve<
     H: Threads + Wait + Sync,
     R: Read + Drop,

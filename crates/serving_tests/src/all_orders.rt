@@ -374,7 +374,7 @@ fn found_of(alloc: Global, source: &str, threads: u32) -> Option<OutcomesFound> 
     list_outcomes(alloc, source, threads, 100000, 10000, u64::MAX, &mut teller).ok()
 }
 
-/// Whether there are so many outcomes, and each is what the report of its order shows.
+/// Whether there are this many outcomes, each of which shows the report of its order.
 fn are_of_orders(alloc: Global, source: &str, threads: u32, count: usize) -> bool {
     let Some(found) = found_of(alloc, source, threads) else {
         return false;

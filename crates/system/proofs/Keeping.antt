@@ -12,7 +12,7 @@ choice : (b : Bool) (this : Option (List ℕ)) (rest rest' : Option (List ℕ)) 
 choice true this rest rest' same known = refl
 choice false this rest rest' same known = same known
 
--- what is known stays as it is
+-- known bytes stay the same
 pub still_known : (files : List KeptFile) (file : KeptFile) → StayKnown (kept_in files) (kept_in (files ++ file ∷ []))
 still_known [] file name known = absurd (false≢true known)
 still_known (f ∷ files) file name known = choice (bytes_eq (string_bytes f.name) name) (Some f.bytes.items) (kept_in files name) (kept_in (files ++ file ∷ []) name) (still_known files file name) known
@@ -26,7 +26,7 @@ pub last_known : (files : List KeptFile) (file : KeptFile) → IsFileKnown (kept
 last_known [] file = ap (λ b. is_some (cond b (Some file.bytes.items) None)) ((bytes_eq-Decides (string_bytes file.name) (string_bytes file.name)).1 refl)
 last_known (f ∷ files) file = known_either (bytes_eq (string_bytes f.name) (string_bytes file.name)) f.bytes.items (kept_in (files ++ file ∷ []) (string_bytes file.name)) (last_known files file)
 
--- one more was read so
+-- one more was read in this way
 pub one_more_read : (request : Option Request) (contents : Contents) (files : List KeptFile) (file : KeptFile) → AreReadFrom request contents files → IsReadFrom request contents file → AreReadFrom request contents (files ++ file ∷ [])
 one_more_read request contents [] file before this = (this, tt)
 one_more_read request contents (f ∷ files) file before this = (before.0, one_more_read request contents files file before.1 this)

@@ -48,7 +48,7 @@ use Rattle.order_steps.proofs.Determined.{turns_are_determined}
 use Rattle.order_steps.proofs.Sourced.{machine_does_all}
 use Rattle.serving.specs.Possible.{OrdersAreReplays, OutcomesAreDone, ShowsOrder, as_waiting, waiting}
 
--- what is told of a thread, shown
+-- a thread's output and end, as shown
 abbrev show_told : List ℕ × ThreadEnd → ThreadShown
 show_told x = record { end = order_end x.1; text = x.0 }
 
@@ -124,7 +124,7 @@ module _ (p : Program) (code : Code) (threads ticks : ℕ) (order : List ℕ) (c
       stopped_is = refl;
     }
 
-    -- what is replayed of lines of the order are these steps
+    -- a replay of lines of the order makes these steps
     same_steps : (found : List Line) (made : List ℕ) (shown : Printed) → AreLinesOfOrder code threads order found → counts found ≤ MOST_STEPS → IsReplayOf p code threads found made None shown → (made ≡ s.trace) × (shown ≡ world_shown p None shown.holder (simulation_after code threads s.trace))
     same_steps found made shown are enough r = (
       is,
@@ -151,7 +151,7 @@ module _ (p : Program) (code : Code) (threads ticks : ℕ) (order : List ℕ) (c
         is = sym (append-nil made) ∙ ap (λ xs. made ++ xs) (sym over) ∙ sym r.named ∙ ap (λ ls. steps_of code MOST_STEPS ls (first_world code threads)) lines
             ∙ named (subst (λ ls. counts ls ≤ MOST_STEPS) lines enough)
 
-    -- nobody has the lock
+    -- no thread has the lock
     no_holder : (o : Option ℕ) → IsHolder (world_of (simulation_after code threads s.trace)) o → o ≡ None
     no_holder None h = refl
     no_holder (Some t) h =
@@ -174,7 +174,7 @@ module _ (p : Program) (code : Code) (threads ticks : ℕ) (order : List ℕ) (c
         same : (made ≡ s.trace) × (shown ≡ world_shown p None shown.holder sim)
         same = same_steps found made shown are enough r
 
-  -- where no thread wants a memory the report is that of the order
+  -- if no thread needs a memory, the report is that of the order
   same_report : (s : IsStepped (effect code) (beginning code) p threads ticks order) → NoneWants (told_in p threads ticks order) → behind_events (world_shown p None None (simulation_after code threads s.trace)) ≡ shown_in p threads ticks order
   same_report s finished =
       let w = world_of (simulation_after code threads s.trace) in

@@ -26,7 +26,7 @@ module _ (name : List ℕ) (threads : ℕ) (end : WalkEnd) (outcomes stuck : Lis
     pub none : IsShownAmong others one.shown → ⊥
     pub shown : written ≡ beyond_text name one
 
--- the text of a list of the outcomes found of so many threads
+-- the text of a list of the outcomes found of this many threads
 abbrev pub list_of : {A : Type 0} → OutcomesFound A → (threads : ℕ) → List ℕ
 list_of found threads =
     list_text (map reported_of found.outcomes.items) (map reported_of found.stuck.items) found.states threads found.end

@@ -25,8 +25,9 @@ use Rattle.serving.specs.Verdicts.{IsEither, Tells}
 use Rattle.serving.specs.Written.{IsAskedFor, WritesPart}
 use Rattle.serving.specs.inner.Printing.{PrintsBehind, PrintsShown}
 
--- The status is at most so much; for what was printed it means this: the bytes that the writer had, if they are known,
--- and those that it has then; with 1 a text is refused, and nothing is printed; and this is written for any status.
+-- The status is at most this number. It means this for the printed text: the bytes that the writer had, if they are
+-- known, and those that it has then. If it is 1, a text is refused, and nothing is printed. For any status this is
+-- written.
 pub record Serves (most : ℕ) (Says : ℕ → Option (List ℕ) → Option (List ℕ) → Type 0) (Refuses : Type 0)
     (Writes : Option (List ℕ) → Option (List ℕ) → Type 0) (status : ℕ) (old new : Option (List ℕ)) : Type 0 where
   pub within : status ≤ most
@@ -89,7 +90,7 @@ ServesEither IsSo IsNot Refuses bytes status old new =
     Serves 5 (λ s o n. IfSome bytes (λ other. Tells (IsSo other) (IsNot other) s o n)) Refuses
     (λ o n. IfSome bytes (λ other. WritesPart (IsEither (IsSo other) (IsNot other)) o n)) status old new
 
--- for a number of threads and so many after it
+-- for a number of threads and this many after it
 abbrev pub ServesEitherInTurn : (IsSo IsNot : (threads : ℕ) → List ℕ → List ℕ → Type 0) → (Refuses : Type 0) →
     (more threads : ℕ) → (bytes : Option (List ℕ)) → (status : ℕ) → (old new : Option (List ℕ)) → Type 0
 ServesEitherInTurn IsSo IsNot Refuses more threads bytes status old new =
@@ -131,7 +132,7 @@ abbrev pub PrintsProperties : (threads : ℕ) → (AreFound : WalkEnd → List P
 PrintsProperties threads AreFound status old new =
     Serves 5 (TellsProperties threads AreFound) ⊥ (WritesPart (IsTextOfProperties threads AreFound)) status old new
 
--- likewise, for a number of threads and so many after it, one after another
+-- likewise, for a number of threads and this many after it, one after another
 abbrev pub PrintsInTurn : (most : ℕ) → (Says : (threads status : ℕ) → (old new : Option (List ℕ)) → Type 0) →
     (IsText : (threads : ℕ) → List ℕ → Type 0) → (more threads status : ℕ) → (old new : Option (List ℕ)) → Type 0
 PrintsInTurn most Says IsText more threads status old new =

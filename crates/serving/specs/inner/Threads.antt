@@ -15,7 +15,7 @@ abbrev pub IsThreadsFault : (text : List ℕ) (threads : ℕ) → ThreadsFault �
 IsThreadsFault text threads (Source fault) = IsFaultOfText text fault
 IsThreadsFault text threads (Run fault) = IsRunRefused fault threads
 
--- the content of the report of a run of so many threads, by the results of the run
+-- the content of the report of a run of this many threads, by the results of the run
 abbrev pub left_shown : (threads : ℕ) → RunLeft → Printed
 left_shown threads left =
     plain_report (threads_of_run left.ran threads) (map shown_of left.globals) (held_by left.ran.memory)

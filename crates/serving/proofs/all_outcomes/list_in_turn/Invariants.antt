@@ -3,7 +3,7 @@ use Rattle.serving.specs.Outcomes.{IsListOfOutcomes, PrintsOutcomes}
 use Rattle.serving.proofs.InTurn.{LeadsFrom}
 use Rattle.serving.proofs.all_outcomes.list_in_turn.Given as goal
 
--- what is served from this number of threads on is served from the first on
+-- an answer from this number of threads on is an answer from the first on
 abbrev pub invariant-numbers : goal.invariant-numbers
 invariant-numbers g l =
     LeadsFrom 4 (λ k t b a. PrintsOutcomes k l.text t b a) (λ k w. IsListOfOutcomes k l.text w) l.range.first l.range.last l.threads (g.W.Write.contents l.initial.out) (g.W.Write.contents l.out)

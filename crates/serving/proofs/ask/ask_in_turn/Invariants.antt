@@ -4,7 +4,7 @@ use Rattle.serving.specs.Properties.{AreAnswered, IsTextOfProperties, TellsPrope
 use Rattle.serving.proofs.InTurn.{LeadsFrom}
 use Rattle.serving.proofs.ask.ask_in_turn.Given as goal
 
--- what is served from this number of threads on is served from the first on
+-- an answer from this number of threads on is an answer from the first on
 abbrev pub invariant-numbers : goal.invariant-numbers
 invariant-numbers g l =
     LeadsFrom 5 (λ k t b a. TellsProperties k (AreAnswered (program_of l.compiled.accepted.safe.typed.unit) k l.questions.steps (asked_each false (map (λ n. n.now) l.always) ++ asked_each true (map (λ n. n.now) l.last))) t b a) (λ k w. IsTextOfProperties k (AreAnswered (program_of l.compiled.accepted.safe.typed.unit) k l.questions.steps (asked_each false (map (λ n. n.now) l.always) ++ asked_each true (map (λ n. n.now) l.last))) w) l.range.first l.range.last l.threads (g.W.Write.contents l.initial.out) (g.W.Write.contents l.out)

@@ -5,7 +5,7 @@ use Rattle.serving.specs.Verdicts.{IsEither, Tells}
 use Rattle.serving.proofs.InTurn.{LeadsFrom}
 use Rattle.serving.proofs.refined.refine_in_turn.Given as goal
 
--- what is served from this number of threads on is served from the first on
+-- an answer from this number of threads on is an answer from the first on
 abbrev pub invariant-numbers : goal.invariant-numbers
 invariant-numbers g l =
     LeadsFrom 5 (λ k t b a. Tells (SaysRefines l.name k (program_of l.this.accepted.safe.typed.unit) (program_of l.that.accepted.safe.typed.unit)) (ShowsBeyond l.name k (program_of l.this.accepted.safe.typed.unit) (program_of l.that.accepted.safe.typed.unit)) t b a) (λ k w. IsEither (SaysRefines l.name k (program_of l.this.accepted.safe.typed.unit) (program_of l.that.accepted.safe.typed.unit)) (ShowsBeyond l.name k (program_of l.this.accepted.safe.typed.unit) (program_of l.that.accepted.safe.typed.unit)) w) l.fn.limits.threads l.last l.each.threads (g.W.Write.contents l.initial.out) (g.W.Write.contents l.out)

@@ -1,5 +1,5 @@
 use Rattle.system.proofs.words.serve_request.Given as goal
 
--- what the writer holds when recording begins
+-- the writer's contents when recording begins
 abbrev pub ghosts-serve_kept : goal.ghosts-serve_kept
 ghosts-serve_kept g a = record { begun = g.W.Write.contents a.out }
