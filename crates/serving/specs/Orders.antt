@@ -48,8 +48,8 @@ pub record RunsInSomeOrder (count : ℕ) (text : List ℕ) (shown : Printed) : T
   pub order : List ℕ
   pub in_order : RunsInOrder count ticks order text shown
 
--- In some order, each with some number of ticks, this many threads leave the globals shown. Each thread that is shown to
--- have ended or trapped shows this there. The order is that of a run of the source. Each thread, even one that still
+-- In some order, each with some number of ticks, this many threads leave the globals shown. Each thread that is shown
+-- to have ended or trapped shows this there. The order is that of a run of the source. Each thread, even one that still
 -- runs, has printed what the source's thread prints in that run with some number of ticks of its own, on the memories
 -- that it finds there, and on the last one if it is inside a transaction.
 pub record LeavesSomeOrder (p : Program) (count : ℕ) (shown : Printed) : Type 0 where
