@@ -240,6 +240,7 @@ pub record IsCoverageAsked (given : List Row) (coverage : Coverage) : Type 0 whe
   pub any : IsAnyNumber given
   pub uncompared : AreUncompared given
   pub none_last : first_of (codes "final") given ≡ None
+  pub none_timed : first_of (codes "time") given ≡ None
   pub steps : IsNumberInRange given (codes "steps") 1000000 0 4294967295 coverage.steps
   pub limit : IsNumberInRange given (codes "limit") 1000000 0 4294967295 coverage.limit
   pub memory : IsNumberInRange given (codes "memory") 1024 0 4294967295 coverage.memory

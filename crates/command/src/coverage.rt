@@ -46,6 +46,9 @@ pub(crate) fn coverage(alloc: Global, given: &ArgMatches<'_>) -> Result<Coverage
     if compares("outcomes", given) || has_text(given, "final") || !has_text(given, "always") {
         return Err(wrong(alloc, why));
     }
+    if has_text(given, "time") {
+        return Err(wrong(alloc, "--threads any takes no --time"));
+    }
     Ok(Coverage {
         steps: number(alloc, given, "steps", 1000000, 0, u32::MAX)?,
         limit: number(alloc, given, "limit", 1000000, 0, u32::MAX)?,

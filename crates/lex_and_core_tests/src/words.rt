@@ -780,7 +780,7 @@ fn questions() -> &'static [Row] {
 
 /// Functions that are asked for every number of threads.
 fn coverages() -> &'static [Row] {
-    static ROWS: [Row; 8] = [
+    static ROWS: [Row; 9] = [
         (
             "txc|outcomes|a.c|--threads=any|--always=p",
             br#"Ok(Cover { file: "a.c", verbose: false, format: Plain, coverage: Coverage { steps: 1000000, limit: 1000000, memory: 1024, always: "p" } })"#,
@@ -796,6 +796,10 @@ fn coverages() -> &'static [Row] {
         (
             "txc|outcomes|a.c|--threads=any|--always=p|--final=p",
             br#"Err(Wrong { text: "txc: usage: --threads any needs --always, and takes no --final, --refines or --expect\n" })"#,
+        ),
+        (
+            "txc|outcomes|a.c|--threads=any|--always=p|--time=5",
+            br#"Err(Wrong { text: "txc: usage: --threads any takes no --time\n" })"#,
         ),
         (
             "txc|outcomes|a.c|--threads=any|--always=p|--refines=b.c",

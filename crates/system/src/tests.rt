@@ -10,6 +10,7 @@ use crate::kept::{KeptFile, bytes_of};
 use crate::question::{answer_question, asked_of, request_words};
 use crate::source::WithSource;
 use command::{TestFormat, Tests, UsageFault};
+use lex::MOST_BYTES;
 use questions::{Question, answer_expected, questions, without_expected};
 use serving::Files;
 use std::alloc::{AllocError, Global};
@@ -20,7 +21,7 @@ use std::thread::Threads;
 use std::time::{Clock, Instant};
 use verdicts::{
     Answered, Tally, Verdict, judge, list_command, report_answer, report_tally, tell_bad_question,
-    tell_no_question, tell_unwritten,
+    tell_long_file, tell_no_question, tell_unwritten,
 };
 
 /// The exit status after an allocation failure, or if the output can't be written.
@@ -55,14 +56,18 @@ fn bad_question<E: Write>(
     }
 }
 
-/// Checks that the questions of a file are requests, and counts them.
+/// Checks that a file is whole and its questions are requests, and counts them.
 fn check_file<E: Write>(alloc: Global, file: &KeptFile, err: &mut E) -> Result<usize, u8>
     ensures { IfErr result (λ s. (s ≡ 2) ⊎ (s ≡ 4)) }
 {
+    let name = file.name.as_str();
+    if file.bytes.len() > MOST_BYTES {
+        tell_long_file(name, MOST_BYTES, err);
+        return Err(UNUSABLE);
+    }
     let Ok(questions) = questions(alloc, file.bytes.as_slice()) else {
         return Err(out_of_memory(err));
     };
-    let name = file.name.as_str();
     'questions: for question in questions.as_slice() {
         let words = without_expected(question.words.as_slice());
         if let Err(fault) = asked_of(alloc, name, words) {

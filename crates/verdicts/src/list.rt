@@ -57,6 +57,13 @@ pub fn tell_bad_question<E: Write>(file: &str, line: usize, column: usize, why: 
     let _ = writeln!(err);
 }
 
+/// Reports that a file is too long to be searched for questions.
+pub fn tell_long_file<E: Write>(file: &str, most: usize, err: &mut E) {
+    let _ = err.write_all(b"txc: ");
+    let _ = write_shown(file, err);
+    let _ = writeln!(err, ": longer than {most} bytes");
+}
+
 /// Reports that no file contains a question.
 pub fn tell_no_question<E: Write>(err: &mut E) {
     let _ = writeln!(err, "txc: no line begins with // txc:");
