@@ -194,7 +194,13 @@ fn push_object<A: Allocator>(to: &mut Vec<u8, A>, object: Writer<A>) -> Result<(
     to.extend_from_slice(b"\n")
 }
 
-/// Adds the object of a turn. What a thread does before its first turn has number 0.
+/// Adds the number of a turn and its thread as members.
+fn put_head<A: Allocator>(to: &mut Writer<A>, number: u64, thread: u32) -> Result<(), AllocError> {
+    put_number(to, "turn", number)?;
+    put_number(to, "thread", u64::from(thread))
+}
+
+/// Adds the object of a turn.
 fn push_turn<A: Allocator + Copy>(
     alloc: A,
     to: &mut Vec<u8, A>,
@@ -206,12 +212,26 @@ fn push_turn<A: Allocator + Copy>(
 ) -> Result<(), AllocError> {
     let mut object = Writer::new(Vec::new(alloc));
     object.begin_object()?;
-    put_number(&mut object, "turn", number)?;
-    put_number(&mut object, "thread", u64::from(turn.thread))?;
+    put_head(&mut object, number, turn.thread)?;
     if let Some(details) = details {
         put_passage(alloc, &mut object, source, details.start)?;
         put_inner(&mut object, source, details.inner.as_slice())?;
     }
+    put_deeds(alloc, &mut object, names, turn)?;
+    object.end_object()?;
+    push_object(to, object)
+}
+
+/// Adds the object of what a thread does before its first turn. Its number is 0.
+fn push_begun<A: Allocator + Copy>(
+    alloc: A,
+    to: &mut Vec<u8, A>,
+    names: &[Named<A>],
+    turn: &TurnShown<A>,
+) -> Result<(), AllocError> {
+    let mut object = Writer::new(Vec::new(alloc));
+    object.begin_object()?;
+    put_head(&mut object, 0, turn.thread)?;
     put_deeds(alloc, &mut object, names, turn)?;
     object.end_object()?;
     push_object(to, object)
@@ -277,7 +297,7 @@ pub(crate) fn push_objects<A: Allocator + Copy>(
     stands: &[Standing],
 ) -> Result<(), AllocError> {
     'begun: for turn in traced.begun.as_slice() {
-        push_turn(alloc, to, names, source, turn, None, 0)?;
+        push_begun(alloc, to, names, turn)?;
     }
     'turns: for at in 0..traced.turns.len() {
         let turn = &traced.turns.as_slice()[at];
