@@ -121,7 +121,11 @@ fn rows() -> &'static [Row] {
             Ok(ADDS),
             Ok(b"0,1"),
             Ok(b"== thread 0: ended\n== thread 1: ended\n== memory\nx = 2"),
-            (5, b"line 5 differs\nsource: \nreport ends\n", b""),
+            (
+                5,
+                b"line 5 differs\nsource: \nreport ends\n",
+                b"txc: they differ only in the last line end\n",
+            ),
         ),
         (
             TWO,
@@ -147,7 +151,11 @@ fn rows() -> &'static [Row] {
             Ok(ADDS),
             Ok(b"0,1"),
             Ok(b"== thread 0: ended\n== thread 1: ended\n== memory\nx = 2\n\n"),
-            (5, b"line 6 differs\nsource ends\nreport: \n", b""),
+            (
+                5,
+                b"line 6 differs\nsource ends\nreport: \n",
+                b"txc: they differ only in the last line end\n",
+            ),
         ),
         // bytes that are not text
         (

@@ -100,7 +100,7 @@ fn pages() -> &'static [PageRow] {
         (
             "txc explore a.c --threads 1 --always small",
             b"long long a[2] = {9007199254740993, -1}; int small(void) { return a[1] < 0; }\nvoid worker(int self) { __transaction_atomic { a[1] = 5; a[0] = a[0] / self; } }",
-            r#"{"file":"a.c","threads":1,"order":[],"source":["long long a[2] = {9007199254740993, -1}; int small(void) { return a[1] < 0; }","void worker(int self) { __transaction_atomic { a[1] = 5; a[0] = a[0] / self; } }"],"cells":["a[0]","a[1]"],"rests":[{"line":2,"column":25,"words":"a[1] = 5; a[0] = a[0] / self","end":"","printed":""},{"line":0,"column":0,"words":"","end":"trap 2","printed":""}],"touched":[[[0],[]],[[],[]]],"states":[[["9007199254740993",-1],[0],[1],[0]],[["9007199254740993",-1],[1],[1],[1]]],"properties":[{"name":"small","values":"11"}]}"#,
+            r#"{"file":"a.c","threads":1,"order":[],"source":["long long a[2] = {9007199254740993, -1}; int small(void) { return a[1] \u003c 0; }","void worker(int self) { __transaction_atomic { a[1] = 5; a[0] = a[0] / self; } }"],"cells":["a[0]","a[1]"],"rests":[{"line":2,"column":25,"words":"a[1] = 5; a[0] = a[0] / self","end":"","printed":""},{"line":0,"column":0,"words":"","end":"trap 2","printed":""}],"touched":[[[0],[]],[[],[]]],"states":[[["9007199254740993",-1],[0],[1],[0]],[["9007199254740993",-1],[1],[1],[1]]],"properties":[{"name":"small","values":"11"}]}"#,
         ),
         // an inner cancel undoes one write, and a read after a write is not a read of memory
         (

@@ -133,7 +133,7 @@ fn a_schedule_an_order_a_report_and_a_list_are_read_whole(rt: HostRuntime) {
 
 #[test]
 fn a_program_that_is_compared_is_read_until_it_is_too_long(rt: HostRuntime) {
-    let told = b"txc: fault 12 at 1:4: unexpected end\n".as_slice();
+    let told = b"txc: fault 05 at 1:1: file too long\ntxc: that is of long\n".as_slice();
     let line = "txc outcomes a.c --refines long";
     assert!(rt; reads(&rt, rt.alloc(), line, 1, told, &[3, 1_048_577]));
 }

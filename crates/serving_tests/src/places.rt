@@ -35,28 +35,36 @@ fn is_told<H: Threads + Wait + Sync>(
     let bare = serve_line(rt, alloc, line, source, b"", false);
     match (shown, bare) {
         (Some(shown), Some(bare)) => {
-            shown.err.as_slice() == told && is_one_report(&shown, &bare)
+            let is_first = if line.starts_with("txc outcomes ") {
+                is_before_trace(shown.err.as_slice(), told)
+            } else {
+                shown.err.as_slice() == told
+            };
+            is_first && is_one_report(&shown, &bare)
         }
         _ => false,
     }
 }
 
-/// The number of lines.
-fn count_lines(text: &[u8]) -> usize {
-    let mut lines: usize = 0;
-    for byte in text {
+/// Whether this text comes first, and nothing or the trace of an order comes after it.
+fn is_before_trace(shown: &[u8], told: &[u8]) -> bool {
+    let rest = shown.get(told.len()..shown.len()).unwrap_or(b"");
+    shown.starts_with(told) && (rest.is_empty() || rest.starts_with(b"txc: with --order "))
+}
+
+/// The text after the first line.
+fn after_line(text: &[u8]) -> &[u8] {
+    for (at, byte) in text.iter().enumerate() {
         if *byte == b'\n' {
-            lines = lines.saturating_add(1);
+            return text.get(at.saturating_add(1)..text.len()).unwrap_or(b"");
         }
     }
-    lines
+    b""
 }
 
 /// Whether this text follows a line that names an order.
 fn is_of_order(shown: &[u8], told: &[u8]) -> bool {
-    shown.starts_with(b"txc: with --order ")
-        && shown.ends_with(told)
-        && count_lines(shown) == count_lines(told).saturating_add(1)
+    shown.starts_with(b"txc: with --order ") && is_before_trace(after_line(shown), told)
 }
 
 /// Whether this text about one order follows the outcomes of a source on a terminal, and none of it elsewhere.

@@ -66,24 +66,26 @@ struct NamedFile<'n> {
     name: &'n str,
     /// Whether it is to be a source. Then at most one byte past the size limit is read.
     is_source: bool,
-    /// Whether the reason is reported if the file can't be read.
+    /// Whether the reason is reported if the file can't be read, and in which format.
     verbose: bool,
+    format: Format,
 }
 
 impl<'n> NamedFile<'n> {
     /// A source.
-    fn source(name: &'n str, verbose: bool) -> NamedFile<'n>
+    fn source(name: &'n str, verbose: bool, format: Format) -> NamedFile<'n>
         ensures { result.name.now ≡ name.now }
     {
         NamedFile {
             name,
             is_source: true,
             verbose,
+            format,
         }
     }
 
     /// A file of any length.
-    fn whole(name: &'n str, verbose: bool) -> NamedFile<'n>
+    fn whole(name: &'n str, verbose: bool, format: Format) -> NamedFile<'n>
         ensures name { result.name.now ≡ name.now }
         ensures whole { result.is_source ≡ false }
     {
@@ -91,17 +93,18 @@ impl<'n> NamedFile<'n> {
             name,
             is_source: false,
             verbose,
+            format,
         }
     }
 
     /// The other side of a comparison.
-    fn against(against: &'n Against, verbose: bool) -> NamedFile<'n>
+    fn against(against: &'n Against, verbose: bool, format: Format) -> NamedFile<'n>
         ensures name { result.name.now ≡ name_of against.now }
         ensures source { (file : List ℕ) → result.is_source ≡ true → result.name.now ≡ other_of file against.now }
     {
         match against {
-            Against::Refined { file } => NamedFile::source(file.as_str(), verbose),
-            Against::Expected { file } => NamedFile::whole(file.as_str(), verbose),
+            Against::Refined { file } => NamedFile::source(file.as_str(), verbose, format),
+            Against::Expected { file } => NamedFile::whole(file.as_str(), verbose, format),
         }
     }
 }
@@ -162,7 +165,7 @@ fn keep<F: Files, E: Write>(
     match read_into(alloc, named, files, kept) {
         Ok(()) => Ok(()),
         Err(error) => {
-            let detail = Detail::of(named.name, named.verbose, Format::Plain, false);
+            let detail = Detail::of(named.name, named.verbose, named.format, false);
             Err(Teller::new(err, detail).not_read(named.name, &error))
         }
     }
@@ -184,12 +187,12 @@ pub(crate) fn keep_files<F: Files, E: Write>(
         Request::Program {
             file,
             verbose,
+            format,
             task,
-            ..
         } => {
             keep(
                 alloc,
-                &NamedFile::source(file.as_str(), *verbose),
+                &NamedFile::source(file.as_str(), *verbose, *format),
                 files,
                 &mut kept,
                 err,
@@ -197,7 +200,7 @@ pub(crate) fn keep_files<F: Files, E: Write>(
             if let Some(name) = schedule_of(task) {
                 keep(
                     alloc,
-                    &NamedFile::whole(name, *verbose),
+                    &NamedFile::whole(name, *verbose, *format),
                     files,
                     &mut kept,
                     err,
@@ -207,26 +210,26 @@ pub(crate) fn keep_files<F: Files, E: Write>(
         Request::Certify {
             file,
             verbose,
+            format,
             claim,
-            ..
         } => {
             keep(
                 alloc,
-                &NamedFile::source(file.as_str(), *verbose),
+                &NamedFile::source(file.as_str(), *verbose, *format),
                 files,
                 &mut kept,
                 err,
             )?;
             keep(
                 alloc,
-                &NamedFile::whole(claim.order.as_str(), *verbose),
+                &NamedFile::whole(claim.order.as_str(), *verbose, *format),
                 files,
                 &mut kept,
                 err,
             )?;
             keep(
                 alloc,
-                &NamedFile::whole(claim.report.as_str(), *verbose),
+                &NamedFile::whole(claim.report.as_str(), *verbose, *format),
                 files,
                 &mut kept,
                 err,
@@ -235,28 +238,39 @@ pub(crate) fn keep_files<F: Files, E: Write>(
         Request::Compare {
             file,
             verbose,
+            format,
             comparison,
-            ..
         } => {
             keep(
                 alloc,
-                &NamedFile::source(file.as_str(), *verbose),
+                &NamedFile::source(file.as_str(), *verbose, *format),
                 files,
                 &mut kept,
                 err,
             )?;
             keep(
                 alloc,
-                &NamedFile::against(&comparison.against, *verbose),
+                &NamedFile::against(&comparison.against, *verbose, *format),
                 files,
                 &mut kept,
                 err,
             )?;
         }
-        Request::Ask { file, verbose, .. } | Request::Cover { file, verbose, .. } => {
+        Request::Ask {
+            file,
+            verbose,
+            format,
+            ..
+        }
+        | Request::Cover {
+            file,
+            verbose,
+            format,
+            ..
+        } => {
             keep(
                 alloc,
-                &NamedFile::source(file.as_str(), *verbose),
+                &NamedFile::source(file.as_str(), *verbose, *format),
                 files,
                 &mut kept,
                 err,
@@ -279,7 +293,7 @@ pub(crate) fn keep_sources<F: Files, E: Write>(
 {
     let mut sources = Vec::new(alloc);
     'names: for name in names {
-        let source = NamedFile::source(name.as_str(), false);
+        let source = NamedFile::source(name.as_str(), false, Format::Plain);
         keep(alloc, &source, files, &mut sources, err)?;
     }
     Ok(sources)
