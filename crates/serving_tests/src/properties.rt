@@ -168,7 +168,7 @@ fn property_rows() -> &'static [Row] {
             (
                 4,
                 b"== open none: outcomes 0, threads: 1, stopped at the steps\n",
-                b"txc: with --order ''\ntxc: thread 0: its steps are used up at 1:72\nint x; int none(void) { return x == 0; } void worker(int self) { while (1) { } }\n                                                                       ^\ntxc: --steps N is how many steps a thread may make in one turn\n",
+                b"txc: with --order ''\ntxc: thread 0: its steps are used up at 1:73\nint x; int none(void) { return x == 0; } void worker(int self) { while (1) { } }\n                                                                        ^\ntxc: --steps N is how many steps a thread may make in one turn\n",
             ),
         ),
         // holds, and an order is stuck
