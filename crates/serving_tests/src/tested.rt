@@ -35,11 +35,15 @@ const TRAPS: &[u8] = b"void worker(int self) { int a = 1 / self; }\n// txc: (tra
 const STUCK: &[u8] =
     b"int x; void worker(int self) { while (__transaction_atomic(!x)) ; }\n// txc: (stuck)\n// txc:\n";
 
+/// Threads print a line that could be one of a list.
+const PRINTS: &[u8] =
+    b"int x, w; void worker(int self) { int i, f; __transaction_atomic { f = w; w = 1; } if (f == 0 && self == 1) { for (i = 0; i < 2000; i++) __transaction_atomic { x = x + 1; } } printf(\"== stuck --order 0\\n\"); }\n// txc: --limit 300 (stuck)\n";
+
 /// An invalid question.
 const BAD: &[u8] = b"void worker(int self) { }\n  // txc: --threads 65\n";
 
 fn rows() -> &'static [Row] {
-    static ROWS: [Row; 14] = [
+    static ROWS: [Row; 15] = [
         (
             "txc test a.c",
             Ok(BROKEN),
@@ -81,6 +85,18 @@ fn rows() -> &'static [Row] {
                 5,
                 "a.c:2: passed: (traps) (outcomes: 1, stuck: 0, states: 1, threads: 2; ",
                 " ms)\n2 passed, 1 failed\n",
+                "",
+            ),
+        ),
+        // the number of stuck orders is that of the last line
+        (
+            "txc test a.c",
+            Ok(PRINTS),
+            NONE,
+            (
+                4,
+                "a.c:2: undecided: --limit 300 (stuck) (",
+                " ms)\n0 passed, 0 failed, 1 undecided\n",
                 "",
             ),
         ),

@@ -18,6 +18,8 @@ pub struct Notes {
     line: Vec<u8>,
     notes: Vec<String>,
     has_stuck: bool,
+    /// Whether the last line counts stuck orders, if it is the last line of a list.
+    counts_stuck: Option<bool>,
 }
 
 /// The finding that a line states, if any: the text after `== ` or `txc: `.
@@ -35,6 +37,25 @@ fn note_of(line: &[u8]) -> Option<&[u8]> {
     }
 }
 
+/// Whether a text has this part.
+fn has_part(text: &[u8], part: &[u8]) -> bool {
+    'places: for at in 0..text.len() {
+        if text.get(at..text.len()).unwrap_or(b"").starts_with(part) {
+            return true;
+        }
+    }
+    false
+}
+
+/// Whether the last line of a list counts stuck orders. There is no answer for another line.
+fn counted_stuck(line: &[u8]) -> Option<bool> {
+    if line.starts_with(b"== outcomes: ") {
+        Some(!has_part(line, b", stuck: 0, "))
+    } else {
+        None
+    }
+}
+
 impl Notes {
     /// No output yet.
     pub fn new(alloc: Global) -> Notes {
@@ -43,12 +64,16 @@ impl Notes {
             line: Vec::new(alloc),
             notes: Vec::new(alloc),
             has_stuck: false,
+            counts_stuck: None,
         }
     }
 
-    /// Whether a stuck order was found.
+    /// Whether a stuck order was found. The count of a list decides, since a thread can print any other line.
     pub fn has_stuck(&self) -> bool {
-        self.has_stuck
+        match self.counts_stuck {
+            Some(counts) => counts,
+            None => self.has_stuck,
+        }
     }
 
     /// The findings.
@@ -77,6 +102,7 @@ impl Notes {
         if self.line.as_slice().starts_with(b"== stuck ") {
             self.has_stuck = true;
         }
+        self.counts_stuck = counted_stuck(self.line.as_slice());
         if let Ok(Some(note)) = self.note() {
             self.keep(note);
         }
