@@ -1,9 +1,9 @@
 #!/usr/bin/env python3
-"""Checks the questions in examples/properties, and what `txc test` makes of questions.
+"""Checks the questions in examples/properties and examples/mistakes, and what `txc test` makes of questions.
 
-All questions of examples/properties pass; so does each command that --list prints, under sh. The objects of `--format json`
-have the exit statuses that `txc outcomes` has for the same words. With each expected answer changed, the questions fail,
-and GitHub's annotations name their lines.
+Each of these programs has a question, and all pass. So does each command that --list prints, under sh. The objects of
+`--format json` have the exit statuses that `txc outcomes` has for the same words. With each expected answer changed, the
+questions fail, and GitHub's annotations name their lines.
 
   scripts/questions.py [--txc PATH]
 """
@@ -75,9 +75,10 @@ def read(path):
 
 def main():
     txc = os.path.abspath(asked(__doc__, TXC).txc)
-    files = sorted(glob.glob("examples/properties/*.c", root_dir=TOP))
+    files = sorted(glob.glob("examples/properties/*.c", root_dir=TOP) + glob.glob("examples/mistakes/*.c", root_dir=TOP))
     told = ran([txc, "test", *files])
     wrong = [told.stdout + told.stderr] if told.returncode else []
+    wrong += [f"{file} has no question" for file in files if not QUESTION.search(read(file))]
     for check in (wrong_objects, wrong_commands, wrong_changed):
         wrong += check(txc, files)
     print("\n".join(wrong) or f"{told.stdout.splitlines()[-1]}: questions of {len(files)} programs")

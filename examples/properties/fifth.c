@@ -8,3 +8,6 @@ void worker(int self) {
     __transaction_atomic { mine = at; at = (at + 1) % 8; }
     if (mine == 4) __transaction_atomic { broken = 1; }
 }
+
+// txc: --threads 4 --always whole
+// txc: --threads any --always whole (fails)

@@ -20,3 +20,5 @@ void worker(int self) {
         }
     }
 }
+
+// txc: --threads any --always apart
