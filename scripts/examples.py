@@ -33,7 +33,7 @@ RUN = re.compile(r"\$ txc run examples/((?:against/)?\w+)\.c\n")
 WIDE = re.compile(r"^(?:signed )?long long (.*);$", re.M)
 # Tables of transcripts have at most so many rows, and these names.
 MOST_ROWS = 18
-PARTS = ("first", "second", "third", "fourth", "fifth")
+PARTS = ("first", "second", "third", "fourth", "fifth", "sixth")
 # Programs of which something is warned: it is what they show.
 WARNED = ["examples/against/nested_cancel.c", "examples/seats.c", "examples/seats_checked.c"]
 SCHEDULE = re.compile(r"^```\n((?:\d+ a?\d+\n)+)```$", re.M)

@@ -534,6 +534,13 @@ fn second_transcripts() -> &'static [Transcript] {
 fn third_transcripts() -> &'static [Transcript] {
     static ROWS: [Transcript; 18] = [
         (
+            "txc outcomes examples/mistakes/lost_update.c --threads 2 --final no_deposit_lost",
+            b"// Clerks pay money into one account. At the end, the balance should have grown by the sum of all deposits.\n// Mistake: a deposit reads the balance in one transaction and writes it in the next.\nint balance = 100, deposited;\n\nint no_deposit_lost(void) { return balance == 100 + deposited; }\n\nvoid deposit(int amount) {\n    int seen;\n    __transaction_atomic { seen = balance; }\n    __transaction_atomic {\n        balance = seen + amount;\n        deposited = deposited + amount;\n    }\n}\n\nvoid worker(int self) {\n    deposit(10 * (self + 1));\n}\n\n// txc: --threads 2 --final no_deposit_lost (fails)\n",
+            b"",
+            b"",
+            b"== not no_deposit_lost --order 0,1,0,1\n== thread 0: ended\n== thread 1: ended\n== memory\nbalance = 120\ndeposited = 30\ntxc: each property has its answer, so the search stopped; --keep-going continues it\ntxc: with --order 0,1,0,1\nturn thread at     balance deposited\n                       100         0\n   1      0 9:5        100         .   seen = balance\n   2      1 9:5        100         .   seen = balance\n   3      0 10:5      >110       >10   balance = seen + amount; deposited = ..  ended\n   4      1 10:5      >120       >30   balance = seen + amount; deposited = ..  ended\nthread 0: ended\nthread 1: ended\nproperty no_deposit_lost: fails: balance = 120, deposited = 30\n",
+        ),
+        (
             "txc listing examples/first.c",
             b"int x = 40, y; void worker(int self) { __transaction_atomic { x = x + 2; y = x - 1; } }\n",
             b"",
@@ -652,6 +659,12 @@ fn third_transcripts() -> &'static [Transcript] {
             b"",
             b"== events\n12 0 commit\n19 0 cancel\n28 0 commit\n== thread 0: ended\n== memory\ntrain = 0\nbus = 8\nasked = 2\nby_train = 1\nby_bus = 1\n",
         ),
+    ];
+    &ROWS
+}
+
+fn fourth_transcripts() -> &'static [Transcript] {
+    static ROWS: [Transcript; 18] = [
         (
             "txc replay examples/carts.c --schedule examples/schedules/carts.txt",
             b"// A cart is built as a whole or not at all: if the inner transaction finds too few wheels, one cancel undoes both.\nint frames = 3, wheels = 9, built;\n\nvoid worker(int self) {\n    int i;\n    for (i = 0; i < 3; i++) {\n        __transaction_atomic [[outer]] {\n            frames = frames - 1;\n            __transaction_atomic {\n                wheels = wheels - 4;\n                if (wheels < 0) __transaction_cancel [[outer]];\n            }\n            built = built + 1;\n        }\n    }\n}\n",
@@ -659,12 +672,6 @@ fn third_transcripts() -> &'static [Transcript] {
             b"",
             b"== events\n12 0 commit\n24 0 commit\n29 0 cancel\n== thread 0: ended\n== memory\nframes = 1\nwheels = 1\nbuilt = 2\n",
         ),
-    ];
-    &ROWS
-}
-
-fn fourth_transcripts() -> &'static [Transcript] {
-    static ROWS: [Transcript; 18] = [
         (
             "txc replay examples/counter.c --threads 2 --schedule examples/schedules/counter.txt",
             b"// Each thread adds one, three times. No addition is lost, however the threads interleave.\nint x;\n\nvoid worker(int self) {\n    int i;\n    for (i = 0; i < 3; i++) {\n        __transaction_atomic { x = x + 1; }\n    }\n}\n",
@@ -784,6 +791,12 @@ fn fourth_transcripts() -> &'static [Transcript] {
             b"",
             b"== thread 0: trap 1\n== memory\ntotal = 2147483647\nentries = 5\ntxc: thread 0: trap 1 at 7:17: 2147483647 + 1 is out of the range of int\n        total = total + 1;\n                ^^^^^^^^^\n",
         ),
+    ];
+    &ROWS
+}
+
+fn fifth_transcripts() -> &'static [Transcript] {
+    static ROWS: [Transcript; 18] = [
         (
             "txc source examples/booking.c --threads 2 --order 1,0,0,1",
             b"// A cancel undoes the innermost transaction alone: a thread that finds no seat in the train takes one in the bus, and\n// what the outer transaction wrote before is kept. Each thread books twice.\nint train = 1, bus = 9, asked, by_train, by_bus;\n\nvoid worker(int self) {\n    int i;\n    for (i = 0; i < 2; i++) {\n        __transaction_atomic {\n            int seated = 0;\n            asked = asked + 1;\n            __transaction_atomic {\n                train = train - 1;\n                by_train = by_train + 1;\n                if (train < 0) __transaction_cancel;\n                seated = 1;\n            }\n            if (!seated) {\n                bus = bus - 1;\n                by_bus = by_bus + 1;\n            }\n        }\n    }\n}\n",
@@ -791,12 +804,6 @@ fn fourth_transcripts() -> &'static [Transcript] {
             b"",
             b"== thread 0: ended\n== thread 1: ended\n== memory\ntrain = 0\nbus = 6\nasked = 4\nby_train = 1\nby_bus = 3\n",
         ),
-    ];
-    &ROWS
-}
-
-fn fifth_transcripts() -> &'static [Transcript] {
-    static ROWS: [Transcript; 17] = [
         (
             "txc source examples/against/clear_torn.c --threads 2 --order 0,1",
             b"// Thread 0 clears an array in one transaction, thread 1 reads both ends of it in another. So it prints 1 1, or 0 0.\nunsigned a[8] = {1, 1, 1, 1, 1, 1, 1, 1};\n\nvoid worker(int self) {\n    unsigned first = 0, last = 0;\n    if (self == 0) {\n        __transaction_atomic {\n            for (int i = 0; i < 8; i++) a[i] = 0;\n        }\n    } else {\n        __transaction_atomic {\n            first = a[0]; /*pause*/\n            last = a[7];\n        }\n        printf(\"%u %u\\n\", first, last);\n    }\n}\n",
