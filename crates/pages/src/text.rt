@@ -286,6 +286,7 @@ function drawFrom(state, search) {
   for (const { name, values } of data.properties) {
     if (values[state] !== "1") continue;
     shown.push(shortest(search, it => values[it] === "0", "Show how " + name + " fails")
+      || shortest(search, it => values[it] === "?", "Show where " + name + " takes too many ticks")
       || make("p", "good", name + " holds in every state from here (" + search.found.length + ")"));
   }
   if (!model.can[state]) shown.push(make("p", "bad", "Stuck: no order lets all threads end"));

@@ -53,6 +53,19 @@ fn end_of(source: Source<'_>, offset: usize) -> usize {
     offset
 }
 
+/// Adds a line of the source, with `?` for control characters other than tabs.
+fn push_source_line<A: Allocator>(to: &mut Vec<u8, A>, line: &[u8]) -> Result<(), AllocError> {
+    let line = match line {
+        [text @ .., b'\r'] => text,
+        _ => line,
+    };
+    'bytes: for byte in line {
+        let is_control = *byte < 32 && *byte != b'\t' || *byte == 127;
+        to.push(if is_control { b'?' } else { *byte })?;
+    }
+    Ok(())
+}
+
 /// Adds the lines of the transaction whose keyword begins at an offset, each after its number.
 fn push_source<A: Allocator>(
     to: &mut Vec<u8, A>,
@@ -66,7 +79,7 @@ fn push_source<A: Allocator>(
         let line = line_from(source.text, start);
         push_number(to, first.saturating_add(shown) as u64)?;
         to.extend_from_slice(b" | ")?;
-        to.extend_from_slice(line)?;
+        push_source_line(to, line)?;
         to.extend_from_slice(b"\n")?;
         if first.saturating_add(shown) >= last {
             return Ok(());
