@@ -38,7 +38,7 @@ module _ (Is Are : List CoveredProperty → Type 0) (so : (ps : List CoveredProp
 
 -- an accepted program, and the text that spells it
 module _ (coverage : Coverage) (text : List ℕ) (source : ParsedSource) (spelled : IsSourceOf text source) (accepted : ∥ IsAccepted source.program ∥₁) where
-  abbrev Theirs : List CoveredProperty → Type 0
+  abbrev pub Theirs : List CoveredProperty → Type 0
   Theirs = AreCoveredOf source.program coverage.steps (slice_split (λ b. b == 44) (string_bytes coverage.always))
 
   covered_of_text : (ps : List CoveredProperty) → Theirs ps → AreCoveredOfText coverage text ps
