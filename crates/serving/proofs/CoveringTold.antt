@@ -1,5 +1,5 @@
 -- The meaning of a status for properties and every number of threads.
-use Rattle.std.proofs.Common.{◌≡◌, ◌≢◌, ◌==◌, ◌⊎◌, ◌||◌, inl, ℕ, Bool, true, false, List, [], ◌∷◌, Option, Some, map, ap, subst, refl, arith}
+use Rattle.std.proofs.Common.{◌≡◌, ◌≢◌, ◌==◌, ◌⊎◌, ◌||◌, inl, ℕ, Bool, true, false, List, [], ◌∷◌, Option, Some, map, ap, subst, refl}
 use Rattle.std.specs.Prelude.{string_bytes}
 use Rattle.std.specs.List.{list_any, slice_split}
 use Rattle.std.specs.Io.KnownBytes.{Appends}
@@ -11,9 +11,8 @@ use Rattle.report.specs.Coverings.{CoveredFinding, CoveredProperty, coverings_te
 use Rattle.report.specs.CoveringViews.{covering_of}
 use Rattle.report.specs.declared.coverings.CoveredProperty.{CoveredProperty as Own}
 use Rattle.serving.specs.Checks.{IsSourceOf}
-use Rattle.serving.specs.Coverings.{AnswersCoverage, AreCoveredOf, AreCoveredOfText, IsCoverageOf, IsTextOfCoverings, TellsCoverings}
+use Rattle.serving.specs.Coverings.{AreCoveredOf, AreCoveredOfText, IsTextOfCoverings, TellsCoverings}
 use Rattle.serving.specs.Coverings.{has_failed_covered, has_unheld_covered}
-use Rattle.serving.specs.Limits.{HasNoCode}
 use Rattle.serving.specs.Written.{WritesPart}
 use Rattle.serving.specs.inner.Serves.{PrintsCoverings, ServesCoverage}
 use Rattle.serving.proofs.Parts.{part_so}

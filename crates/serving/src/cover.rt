@@ -1,7 +1,7 @@
 //! `txc outcomes` with `--threads any`: whether functions of a source hold in every state that any number of its threads
 //! reaches.
 
-ghost use Rattle.std.specs.Prelude.{◌≡◌, ◌≢◌, ◌≤◌, All, IfOk, IfSome, Some, map, not, string_bytes, true, false};
+ghost use Rattle.std.specs.Prelude.{◌≡◌, ◌≢◌, ◌≤◌, ◌==◌, Some, map, not, string_bytes, true, false};
 ghost use Rattle.std.specs.List.{list_any, slice_split};
 ghost use Rattle.syntax.specs.Views.{program_of};
 ghost use Rattle.report.specs.CoveringViews.{covering_of};
