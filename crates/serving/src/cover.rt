@@ -1,5 +1,5 @@
-//! `txc outcomes` with `--threads any`: whether functions of a source hold in every state that any number of its threads
-//! reaches.
+//! `txc outcomes` with `--threads any`: whether functions of a source hold in every state that any number of its
+//! threads reaches.
 
 ghost use Rattle.std.specs.Prelude.{◌≡◌, ◌≢◌, ◌≤◌, ◌==◌, Some, map, not, string_bytes, true, false};
 ghost use Rattle.std.specs.List.{list_any, slice_split};
