@@ -190,16 +190,19 @@ fn work_alone<A: Allocator + Copy, S: Read + Drop, W: Write, E: Write>(
             memory,
             traces,
             ..
-        } => all_outcomes(
-            alloc,
-            text,
-            *threads,
-            u64::from(*steps),
-            *limit,
-            bytes_of_memory(*memory),
-            out,
-            &mut teller.with_traces(*traces),
-        ),
+        } => {
+            let mut told = Teller::new(teller.err, teller.detail.with_traces(*traces));
+            all_outcomes(
+                alloc,
+                text,
+                *threads,
+                u64::from(*steps),
+                *limit,
+                bytes_of_memory(*memory),
+                out,
+                &mut told,
+            )
+        }
     }
 }
 

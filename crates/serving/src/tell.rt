@@ -67,7 +67,7 @@ impl<'a> Detail<'a> {
     }
 
     /// The same detail, with traces of a search's first findings if they are wanted.
-    fn with_traces(self, are_wanted: bool) -> Detail<'a> {
+    pub(crate) fn with_traces(self, are_wanted: bool) -> Detail<'a> {
         let mut detail = self.of_file(self.file);
         detail.traces = self.traces || are_wanted;
         detail
@@ -105,14 +105,6 @@ impl<'a, E: Write> Teller<'a, E> {
 }
 
 impl<E: Write> Teller<'_, E> {
-    /// A teller with the same writer, and with traces of a search's first findings if they are wanted.
-    pub(crate) fn with_traces(&mut self, are_wanted: bool) -> Teller<'_, E> {
-        Teller {
-            err: &mut *self.err,
-            detail: self.detail.with_traces(are_wanted),
-        }
-    }
-
     /// Reports why a source is refused.
     pub(crate) fn refuse<A: Allocator + Copy>(
         &mut self,
