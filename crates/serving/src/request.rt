@@ -191,7 +191,7 @@ fn work_alone<A: Allocator + Copy, S: Read + Drop, W: Write, E: Write>(
             traces,
             ..
         } => {
-            let mut told = Teller::new(teller.err, teller.detail.with_traces(*traces));
+            teller.show_traces(*traces);
             all_outcomes(
                 alloc,
                 text,
@@ -200,7 +200,7 @@ fn work_alone<A: Allocator + Copy, S: Read + Drop, W: Write, E: Write>(
                 *limit,
                 bytes_of_memory(*memory),
                 out,
-                &mut told,
+                teller,
             )
         }
     }

@@ -66,13 +66,6 @@ impl<'a> Detail<'a> {
         }
     }
 
-    /// The same detail, with traces of a search's first findings if they are wanted.
-    pub(crate) fn with_traces(self, are_wanted: bool) -> Detail<'a> {
-        let mut detail = self.of_file(self.file);
-        detail.traces = self.traces || are_wanted;
-        detail
-    }
-
     /// How faults of another file's program are reported.
     pub(crate) fn of_file<'b>(self, file: &'b str) -> Detail<'b> {
         Detail {
@@ -105,6 +98,13 @@ impl<'a, E: Write> Teller<'a, E> {
 }
 
 impl<E: Write> Teller<'_, E> {
+    /// Shows traces of a search's first findings if they are wanted.
+    pub(crate) fn show_traces(&mut self, are_wanted: bool) {
+        if are_wanted {
+            self.detail.traces = true;
+        }
+    }
+
     /// Reports why a source is refused.
     pub(crate) fn refuse<A: Allocator + Copy>(
         &mut self,
