@@ -479,7 +479,11 @@ fn expected_rows() -> &'static [Row] {
             EXPECTS,
             LAST,
             b"== outcome --order 0,1\n== thread 0: ended\n== thread 1: ended\n== memory\nx = 1\n== outcome --order 1,0\n== thread 0: ended\n== thread 1: ended\n== memory\nx = 0\n== outcomes: 2, stuck: 0, states: 5, threads: 2",
-            (5, b"line 12 differs\nexpected ends\nfound: \n", b""),
+            (
+                5,
+                b"line 12 differs\nexpected ends\nfound: \n",
+                b"txc: they differ only in the last line end\n",
+            ),
         ),
         (
             EXPECTS,
