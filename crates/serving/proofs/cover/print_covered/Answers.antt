@@ -29,5 +29,5 @@ returns-in-Ok g c =
       untouched = λ one. absurd (not_one c.cannot_write.result four one);
     }
 
-pub returns-in-Err : goal.returns-in-Err
-returns-in-Err g c = refused_coverings _ c.out_of_memory.result _ _ (inr c.out_of_memory.ensures) refl
+pub returns : goal.returns
+returns g c = refused_coverings _ c.out_of_memory.result _ _ (inr c.out_of_memory.ensures) refl
