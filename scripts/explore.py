@@ -114,7 +114,8 @@ def compare(txc, words):
         if of_page != touched_by(trace, len(turn["order"])):
             sys.exit(f"{words}, order {order}: the page has {of_page} of\n{trace}")
         for name, value in turn["values"]:
-            if f"property {name}: {SAID[value]}\n" not in out_of(txc, "trace", *run, "--order", order, "--property", name):
+            shown = out_of(txc, "trace", *run, "--order", order, "--property", name).splitlines()
+            if not any(re.match(rf"property {name}: {SAID[value]}(:|$)", line) for line in shown):
                 sys.exit(f"{words}, order {order}: {name} is not {SAID[value]}")
     print(f"{words}: {found['states']} states, {len(found['turns'])} turns")
 
