@@ -2,6 +2,7 @@
 
 use crate::tell::{Teller, show_line};
 use bytecode::{Code, InstrView};
+use fault_lines::Tell;
 use lex::place;
 use lex::token::{Scalar, Span};
 use machine::PlaceShown;
@@ -148,7 +149,7 @@ pub(crate) fn tell_long<A: Allocator + Copy, E: Write>(
 
 /// If lines are wanted, reports where each thread trapped or stopped, with the source line. If several threads are at
 /// one place, it shows the line once.
-pub(crate) fn tell_ends<A: Allocator + Copy, T: HasEnd, E: Write>(
+pub(crate) fn tell_ends<A: Allocator + Copy, T: HasEnd, E: Tell>(
     alloc: A,
     text: &str,
     threads: &[T],
@@ -157,13 +158,13 @@ pub(crate) fn tell_ends<A: Allocator + Copy, T: HasEnd, E: Write>(
 ) {
     if teller.detail.lines {
         let mut shown = Vec::new(alloc);
-        tell_threads(alloc, text, threads, stood, &mut shown, teller.err);
+        tell_threads(alloc, text, threads, stood, &mut shown, &mut teller.err);
     }
 }
 
 /// Reports where each thread trapped or stopped. It shows the source line of each place that has not been shown
 /// yet.
-pub(crate) fn tell_threads<A: Allocator + Copy, T: HasEnd, E: Write>(
+pub(crate) fn tell_threads<A: Allocator + Copy, T: HasEnd, E: Tell>(
     alloc: A,
     text: &str,
     threads: &[T],
@@ -266,7 +267,7 @@ fn tell_trap<E: Write>(text: &str, number: usize, trap: Trap, stood: Stood, err:
 }
 
 /// Writes a line and a column.
-fn write_place<E: Write>(text: &str, at: Option<Span>, err: &mut E) {
+fn write_place<E: Tell>(text: &str, at: Option<Span>, err: &mut E) {
     if let Some(at) = at {
         let (line, column) = place(text, at.start.min(text.len()));
         let _ = write!(err, " at {line}:{column}");
@@ -274,7 +275,7 @@ fn write_place<E: Write>(text: &str, at: Option<Span>, err: &mut E) {
 }
 
 /// Writes what could not be computed.
-fn write_cause<E: Write>(text: &str, trap: Trap, cause: TrapCause, at: Option<Span>, err: &mut E) {
+fn write_cause<E: Tell>(text: &str, trap: Trap, cause: TrapCause, at: Option<Span>, err: &mut E) {
     match cause {
         TrapCause::Call => {
             let _ = err.write_all(b"64 frames are live, and this call wants one more");

@@ -4,21 +4,24 @@ ghost use Rattle.std.specs.Prelude.{◌≡◌, ◌≤◌, ℕ, IfOk, IfSome, Lis
 ghost use Rattle.std.specs.Prelude.{take, OnOk};
 ghost use Rattle.serving.specs.Answers.{most_status};
 ghost use Rattle.serving.specs.Files.{AnswersFiles, RefusesSource, WritesForFiles, schedule_in, schedule_of};
-ghost use Rattle.serving.specs.Refusals.{IsRefused};
+ghost use Rattle.serving.specs.Refusals.{IsFaultOfSource, IsRefused};
 ghost use Rattle.serving.specs.Sources.{IsTextOf};
 ghost use Rattle.replay.specs.declared.line.TheConstants.{MOST_STEPS};
 ghost use Rattle.serving.specs.Replays.{AreLinesOf, AreTurnsOf, IsSchedule, lines_of_seed};
+ghost use Rattle.serving.specs.Told.{TellsPlain, TellsRefusal};
 ghost use Rattle.serving.specs.inner.Serves.{ServesTask};
 
 use crate::ask::open_asked;
 use crate::certify::open_claim;
 use crate::compared::open_comparison;
 use crate::cover::open_covered;
+use crate::lossy::Lossy;
 use crate::request::{explain, explain_end, serve_program};
 use crate::tell::{Detail, Teller, refuse_replay};
 use crate::timed::Timed;
 use bytecode::Code;
 use command::{Request, Steps, Task};
+use fault_lines::Tell;
 use lex::MOST_BYTES;
 use meaning::MeaningFault;
 use replay::{Line, ScheduleFault, TurnsFault, read_schedule, seeded, turns};
@@ -63,6 +66,7 @@ pub fn serve_files<
     ensures refused { result ≡ 1 → RefusesSource request.now (F.contents files.now) }
     ensures untouched { result ≡ 1 → W.contents out.new ≡ W.contents out.old }
 {
+    let mut err = Lossy::new(err);
     match request {
         Request::Program {
             file,
@@ -74,12 +78,12 @@ pub fn serve_files<
             let detail = Detail::of(file, *verbose, *format, err.is_terminal());
             match task {
                 Task::Outcomes { time, .. } => {
-                    let mut timed = Timed::new(err, rt, *time);
+                    let mut timed = Timed::new(&mut err, rt, *time);
                     let mut teller = Teller::new(&mut timed, detail);
                     open_source(rt, alloc, file, task, files, out, &mut teller)
                 }
                 _ => {
-                    let mut teller = Teller::new(err, detail);
+                    let mut teller = Teller::new(&mut err, detail);
                     open_source(rt, alloc, file, task, files, out, &mut teller)
                 }
             }
@@ -91,7 +95,7 @@ pub fn serve_files<
             claim,
         } => {
             let detail = Detail::of(file.as_str(), *verbose, *format, err.is_terminal());
-            let mut teller = Teller::new(err, detail);
+            let mut teller = Teller::new(&mut err, detail);
             open_claim(alloc, file.as_str(), claim, files, out, &mut teller)
         }
         Request::Compare {
@@ -101,7 +105,7 @@ pub fn serve_files<
             comparison,
         } => {
             let detail = Detail::of(file.as_str(), *verbose, *format, err.is_terminal());
-            let mut timed = Timed::new(err, rt, comparison.time);
+            let mut timed = Timed::new(&mut err, rt, comparison.time);
             let mut teller = Teller::new(&mut timed, detail);
             open_comparison(alloc, file.as_str(), comparison, files, out, &mut teller)
         }
@@ -112,7 +116,7 @@ pub fn serve_files<
             questions,
         } => {
             let detail = Detail::of(file.as_str(), *verbose, *format, err.is_terminal());
-            let mut timed = Timed::new(err, rt, questions.time);
+            let mut timed = Timed::new(&mut err, rt, questions.time);
             let mut teller = Teller::new(&mut timed, detail);
             open_asked(alloc, file.as_str(), questions, files, out, &mut teller)
         }
@@ -123,17 +127,17 @@ pub fn serve_files<
             coverage,
         } => {
             let detail = Detail::of(file.as_str(), *verbose, *format, err.is_terminal());
-            let mut timed = Timed::new(err, rt, None);
+            let mut timed = Timed::new(&mut err, rt, None);
             let mut teller = Teller::new(&mut timed, detail);
             open_covered(alloc, file.as_str(), coverage, files, out, &mut teller)
         }
-        Request::Explain { number } => explain(*number, out, err),
-        Request::ExplainEnd { word, number } => explain_end(word.as_str(), *number, out, err),
+        Request::Explain { number } => explain(*number, out, &mut err),
+        Request::ExplainEnd { word, number } => explain_end(word.as_str(), *number, out, &mut err),
     }
 }
 
 /// Opens the source, and then answers the request.
-fn open_source<H: Threads + Wait + Sync, F: Files, W: Write, E: Write + Send>(
+fn open_source<H: Threads + Wait + Sync, F: Files, W: Write, E: Tell + Send>(
     rt: &H,
     alloc: Global,
     file: &str,
@@ -142,8 +146,10 @@ fn open_source<H: Threads + Wait + Sync, F: Files, W: Write, E: Write + Send>(
     out: &mut W,
     teller: &mut Teller<'_, E>,
 ) -> u8
-    ensures { ServesTask task.now (schedule_in (F.contents files.now) (schedule_of task.now))
+    ensures serves { ServesTask task.now (schedule_in (F.contents files.now) (schedule_of task.now))
         (F.contents files.now file.now) result (W.contents out.old) (W.contents out.new) }
+    ensures told { result ≡ 1 → IfSome (F.contents files.now file.now) (λ bytes. TellsRefusal task.now
+        teller.old.detail.format bytes (E.contents teller.old.err) (E.contents teller.new.err)) }
 {
     match files.open(file) {
         Ok(source) => open_schedule(rt, alloc, task, source, files, out, teller),
@@ -152,7 +158,7 @@ fn open_source<H: Threads + Wait + Sync, F: Files, W: Write, E: Write + Send>(
 }
 
 /// Opens the schedule that a task names, if it names one, and then answers the request.
-fn open_schedule<H: Threads + Wait + Sync, F: Files, R: Read + Drop, W: Write, E: Write + Send>(
+fn open_schedule<H: Threads + Wait + Sync, F: Files, R: Read + Drop, W: Write, E: Tell + Send>(
     rt: &H,
     alloc: Global,
     task: &Task,
@@ -161,8 +167,10 @@ fn open_schedule<H: Threads + Wait + Sync, F: Files, R: Read + Drop, W: Write, E
     out: &mut W,
     teller: &mut Teller<'_, E>,
 ) -> u8
-    ensures { ServesTask task.now (schedule_in (F.contents files.now) (schedule_of task.now))
+    ensures serves { ServesTask task.now (schedule_in (F.contents files.now) (schedule_of task.now))
         (R.remaining source) result (W.contents out.old) (W.contents out.new) }
+    ensures told { result ≡ 1 → IfSome (R.remaining source) (λ bytes. TellsRefusal task.now
+        teller.old.detail.format bytes (E.contents teller.old.err) (E.contents teller.new.err)) }
 {
     match schedule_of(task) {
         Some(name) => match files.open(name) {
@@ -195,7 +203,7 @@ pub fn schedule_of(task: &Task) -> Option<&str>
 }
 
 /// Reads a source. The error is the exit status, and the reason is reported on standard error.
-pub(crate) fn text_of<A: Allocator + Copy, R: Read + Drop, E: Write>(
+pub(crate) fn text_of<A: Allocator + Copy, R: Read + Drop, E: Tell>(
     alloc: A,
     source: R,
     teller: &mut Teller<'_, E>,
@@ -203,6 +211,10 @@ pub(crate) fn text_of<A: Allocator + Copy, R: Read + Drop, E: Write>(
     ensures ok { IfOk result (λ s. IfSome (R.remaining source) (λ bytes. string_bytes s ≡ bytes)) }
     ensures status { IfErr result (λ s. (s ≡ 1) × IfSome (R.remaining source) (λ bytes. IsRefused bytes) ⊎ (s ≡ 2)
         ⊎ (s ≡ 4)) }
+    ensures format { OnOk result (teller.new.detail.format ≡ teller.old.detail.format) }
+    ensures kept { OnOk result (E.contents teller.new.err ≡ E.contents teller.old.err) }
+    ensures told { IfErr result (λ s. s ≡ 1 → IfSome (R.remaining source) (λ bytes. TellsPlain IsFaultOfSource
+        teller.old.detail.format bytes (E.contents teller.old.err) (E.contents teller.new.err))) }
 {
     match read_source(alloc, source) {
         Ok(SourceText::Text(text)) => Ok(text),
@@ -272,7 +284,7 @@ fn read_text<A: Allocator, R: Read + Drop>(alloc: A, mut reader: R) -> io::Resul
 }
 
 /// The lines of a schedule, a seed or an order. The error is the exit status, and the reason is reported.
-pub(crate) fn lines_of<A: Allocator + Copy, S: Read + Drop, E: Write>(
+pub(crate) fn lines_of<A: Allocator + Copy, S: Read + Drop, E: Tell>(
     alloc: A,
     code: &Code<A>,
     threads: u32,
@@ -291,7 +303,7 @@ pub(crate) fn lines_of<A: Allocator + Copy, S: Read + Drop, E: Write>(
 }
 
 /// The lines of an order of whole transactions.
-pub(crate) fn lines_in_order<A: Allocator + Copy, E: Write>(
+pub(crate) fn lines_in_order<A: Allocator + Copy, E: Tell>(
     alloc: A,
     code: &Code<A>,
     threads: u32,
@@ -303,8 +315,14 @@ pub(crate) fn lines_in_order<A: Allocator + Copy, E: Write>(
 {
     match turns(alloc, code, threads, order) {
         Ok(found) => Ok(found),
-        Err(TurnsFault::OutOfMemory) => Err(refuse_replay(WorldFault::OutOfMemory, teller.err)),
-        Err(TurnsFault::WrongThreads) => Err(refuse_replay(WorldFault::WrongThreads, teller.err)),
+        Err(TurnsFault::OutOfMemory) => Err(refuse_replay(
+            WorldFault::OutOfMemory,
+            &mut teller.err,
+        )),
+        Err(TurnsFault::WrongThreads) => Err(refuse_replay(
+            WorldFault::WrongThreads,
+            &mut teller.err,
+        )),
         Err(TurnsFault::Stranger) => Err(teller.refuse_order(MeaningFault::Stranger)),
         Err(TurnsFault::TooLong) => Err(teller.refuse_schedule(alloc, "", ScheduleFault::TooLong)),
     }
@@ -321,7 +339,7 @@ pub(crate) fn lines_if_any<A: Allocator + Copy>(
 }
 
 /// The lines of a schedule.
-fn lines_read<A: Allocator + Copy, S: Read + Drop, E: Write>(
+fn lines_read<A: Allocator + Copy, S: Read + Drop, E: Tell>(
     alloc: A,
     file: &str,
     schedule: S,
@@ -341,7 +359,7 @@ fn lines_read<A: Allocator + Copy, S: Read + Drop, E: Write>(
 }
 
 /// The lines of a seed.
-pub(crate) fn lines_picked<A: Allocator + Copy, E: Write>(
+pub(crate) fn lines_picked<A: Allocator + Copy, E: Tell>(
     alloc: A,
     seed: u32,
     threads: u32,
@@ -353,7 +371,7 @@ pub(crate) fn lines_picked<A: Allocator + Copy, E: Write>(
     ensures status { IfErr result (λ s. (s ≡ 2) ⊎ (s ≡ 4)) }
 {
     if threads == 0 {
-        return Err(refuse_replay(WorldFault::WrongThreads, teller.err));
+        return Err(refuse_replay(WorldFault::WrongThreads, &mut teller.err));
     }
     match seeded(alloc, u64::from(seed), threads, count) {
         Ok(found) => Ok(found),

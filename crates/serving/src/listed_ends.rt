@@ -8,6 +8,7 @@ use crate::reasons::Reason;
 use crate::source::order_accepted;
 use crate::tell::Teller;
 use crate::walked::OutcomesFound;
+use fault_lines::Tell;
 use lex::token::Span;
 use report::{End, Finding, Property, ReportedOrder, ThreadShown, WalkEnd};
 use separation::Accepted;
@@ -17,7 +18,7 @@ use std::io::Write;
 /// If lines are wanted, reports where threads trapped in outcomes, and where they wait in stuck orders. It covers each
 /// order that shows a place not reported before, and runs these orders once more. If a search was stopped, it reports
 /// which option lets the search continue.
-pub(crate) fn tell_listed_ends<A: Allocator + Copy, E: Write>(
+pub(crate) fn tell_listed_ends<A: Allocator + Copy, E: Tell>(
     alloc: A,
     text: &str,
     threads: u32,
@@ -31,19 +32,38 @@ pub(crate) fn tell_listed_ends<A: Allocator + Copy, E: Write>(
         let mut shown = Vec::new(alloc);
         let (outcomes, stuck) = (found.outcomes.as_slice(), found.stuck.as_slice());
         tell_orders(
-            alloc, text, &accepted, threads, outcomes, &mut shown, teller.err,
+            alloc,
+            text,
+            &accepted,
+            threads,
+            outcomes,
+            &mut shown,
+            &mut teller.err,
         );
         tell_orders(
-            alloc, text, &accepted, threads, stuck, &mut shown, teller.err,
+            alloc,
+            text,
+            &accepted,
+            threads,
+            stuck,
+            &mut shown,
+            &mut teller.err,
         );
-        tell_reason(alloc, text, &accepted, threads, &found.reason, teller.err);
+        tell_reason(
+            alloc,
+            text,
+            &accepted,
+            threads,
+            &found.reason,
+            &mut teller.err,
+        );
     }
-    tell_stop(found.end, teller.err);
+    tell_stop(found.end, &mut teller.err);
 }
 
 /// If lines are wanted, reports where threads wait in the stuck orders of a search for properties, as after a list.
 /// If the search was stopped, it also reports which option lets it continue.
-pub(crate) fn tell_asked_ends<A: Allocator + Copy, E: Write>(
+pub(crate) fn tell_asked_ends<A: Allocator + Copy, E: Tell>(
     alloc: A,
     text: &str,
     accepted: &Accepted<A>,
@@ -57,7 +77,13 @@ pub(crate) fn tell_asked_ends<A: Allocator + Copy, E: Write>(
     let mut shown = Vec::new(alloc);
     let stuck = found.stuck.as_slice();
     tell_orders(
-        alloc, text, accepted, threads, stuck, &mut shown, teller.err,
+        alloc,
+        text,
+        accepted,
+        threads,
+        stuck,
+        &mut shown,
+        &mut teller.err,
     );
     if found.is_answered {
         let _ = writeln!(
@@ -65,9 +91,16 @@ pub(crate) fn tell_asked_ends<A: Allocator + Copy, E: Write>(
             "txc: each property has its answer, so the search stopped; --keep-going continues it"
         );
     } else if found.end != WalkEnd::Whole {
-        tell_answered(found.properties.as_slice(), teller.err);
-        tell_reason(alloc, text, accepted, threads, &found.reason, teller.err);
-        tell_stop(found.end, teller.err);
+        tell_answered(found.properties.as_slice(), &mut teller.err);
+        tell_reason(
+            alloc,
+            text,
+            accepted,
+            threads,
+            &found.reason,
+            &mut teller.err,
+        );
+        tell_stop(found.end, &mut teller.err);
     }
 }
 

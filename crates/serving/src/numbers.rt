@@ -5,9 +5,11 @@ ghost use Rattle.serving.specs.Numbers.{IsWithNumbers, IsUsedInSource, ServesAsk
 ghost use Rattle.serving.specs.inner.Numbers.{AreUsedIn, contents_with, rest_of};
 
 use crate::files::{Files, read_bytes, serve_files};
+use crate::lossy::Lossy;
 use crate::print::UNUSABLE;
 use crate::tell::{Detail, Teller, out_of_memory};
 use command::{Against, Asked, Format, Request};
+use fault_lines::Tell;
 use messages::write_shown;
 use parameters::{Definition, put_in, uses};
 use std::alloc::{AllocError, Global};
@@ -136,7 +138,7 @@ impl<'a, F: Files> Files for Numbered<'a, F> {
 
 /// The bytes read from a source: all of them, or one more than the size limit. The error is the exit status, and the
 /// reason is reported on standard error.
-fn source_read<F: Files, E: Write>(
+fn source_read<F: Files, E: Tell>(
     alloc: Global,
     files: &F,
     name: &str,
@@ -321,7 +323,12 @@ fn serve_sources<
         sources.format,
         err.is_terminal(),
     );
-    let bytes = match source_read(alloc, files, sources.file, &mut Teller::new(err, detail)) {
+    let bytes = match source_read(
+        alloc,
+        files,
+        sources.file,
+        &mut Teller::new(Lossy::new(err), detail),
+    ) {
         Ok(bytes) => bytes,
         Err(status) => return status,
     };
@@ -329,7 +336,12 @@ fn serve_sources<
         let read = (bytes.as_slice(), bytes.as_slice());
         return serve_read(rt, alloc, asked, files, sources, read, out, err);
     }
-    match source_read(alloc, files, sources.other, &mut Teller::new(err, detail)) {
+    match source_read(
+        alloc,
+        files,
+        sources.other,
+        &mut Teller::new(Lossy::new(err), detail),
+    ) {
         Ok(other) => {
             let read = (bytes.as_slice(), other.as_slice());
             serve_read(rt, alloc, asked, files, sources, read, out, err)

@@ -6,6 +6,7 @@ use crate::properties::PropertiesFound;
 use crate::tell::Teller;
 use crate::walked::OutcomesFound;
 use command::Format;
+use fault_lines::Tell;
 use lex::place;
 use messages::write_quoted;
 use report::{End, Finding, Property, ReportedOrder, ThreadShown, WalkEnd};
@@ -16,7 +17,7 @@ use syntax::number::number;
 use syntax::tree::{Item, Unit};
 
 /// Reports a list of outcomes and stuck orders.
-pub(crate) fn tell_list<A: Allocator, E: Write>(
+pub(crate) fn tell_list<A: Allocator, E: Tell>(
     found: &OutcomesFound<A>,
     threads: u32,
     status: u8,
@@ -25,8 +26,8 @@ pub(crate) fn tell_list<A: Allocator, E: Write>(
     let (outcomes, stuck) = (found.outcomes.as_slice(), found.stuck.as_slice());
     match teller.detail.format {
         Format::Json => {
-            put_orders("outcome", outcomes, teller.err);
-            put_orders("stuck", stuck, teller.err);
+            put_orders("outcome", outcomes, &mut teller.err);
+            put_orders("stuck", stuck, &mut teller.err);
             let _ = write!(
                 teller.err,
                 "{{\"result\":\"verdict\",\"status\":{status},\"threads\":{threads},\"outcomes\":{},\"stuck\":{},\"states\":{},\"stopped\":",
@@ -34,7 +35,7 @@ pub(crate) fn tell_list<A: Allocator, E: Write>(
                 stuck.len(),
                 found.states
             );
-            put_stop(found.end, false, teller.err);
+            put_stop(found.end, false, &mut teller.err);
         }
         Format::Github => {
             annotate_stuck(stuck, teller);
@@ -44,7 +45,7 @@ pub(crate) fn tell_list<A: Allocator, E: Write>(
 }
 
 /// Reports the answers about properties of a program, and stuck orders.
-pub(crate) fn tell_answers<A: Allocator, E: Write>(
+pub(crate) fn tell_answers<A: Allocator, E: Tell>(
     text: &str,
     unit: &Unit<A>,
     found: &PropertiesFound<A>,
@@ -56,15 +57,15 @@ pub(crate) fn tell_answers<A: Allocator, E: Write>(
     match teller.detail.format {
         Format::Json => {
             'properties: for one in found.properties.as_slice() {
-                put_property(one, teller.err);
+                put_property(one, &mut teller.err);
             }
-            put_orders("stuck", stuck, teller.err);
+            put_orders("stuck", stuck, &mut teller.err);
             let _ = write!(
                 teller.err,
                 "{{\"result\":\"verdict\",\"status\":{status},\"threads\":{threads},\"stuck\":{},\"stopped\":",
                 stuck.len()
             );
-            put_stop(found.end, found.is_answered, teller.err);
+            put_stop(found.end, found.is_answered, &mut teller.err);
         }
         Format::Github => {
             'annotated: for one in found.properties.as_slice() {
@@ -184,7 +185,7 @@ fn put_property<A: Allocator, E: Write>(one: &Property<A>, err: &mut E) {
 }
 
 /// Annotates the function of a property that fails, takes too long, or has no answer.
-fn annotate<A: Allocator, E: Write>(
+fn annotate<A: Allocator, E: Tell>(
     text: &str,
     unit: &Unit<A>,
     one: &Property<A>,
@@ -204,19 +205,19 @@ fn annotate<A: Allocator, E: Write>(
     }
     let _ = write!(teller.err, ",title={name}::{name} {words}");
     if let Some(order) = order {
-        put_order(order.order.as_slice(), teller.err);
+        put_order(order.order.as_slice(), &mut teller.err);
     }
     let _ = teller.err.write_all(b"\n");
 }
 
 /// Annotates the source with each stuck order.
-fn annotate_stuck<A: Allocator, E: Write>(stuck: &[ReportedOrder<A>], teller: &mut Teller<'_, E>) {
+fn annotate_stuck<A: Allocator, E: Tell>(stuck: &[ReportedOrder<A>], teller: &mut Teller<'_, E>) {
     'stuck: for one in stuck {
         begin_annotation("error", teller);
         let _ = teller
             .err
             .write_all(b",title=stuck::no continuation lets all threads end");
-        put_order(one.order.as_slice(), teller.err);
+        put_order(one.order.as_slice(), &mut teller.err);
         let _ = teller.err.write_all(b"\n");
     }
 }
@@ -231,7 +232,7 @@ fn put_order<E: Write>(order: &[u32], err: &mut E) {
 }
 
 /// Begins an annotation of the source's file.
-pub(crate) fn begin_annotation<E: Write>(kind: &str, teller: &mut Teller<'_, E>) {
+pub(crate) fn begin_annotation<E: Tell>(kind: &str, teller: &mut Teller<'_, E>) {
     let _ = write!(teller.err, "::{kind} file=");
     let file = teller.detail.file;
     'characters: for c in file.chars() {

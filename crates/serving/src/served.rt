@@ -8,6 +8,7 @@ use crate::ask::ask;
 use crate::certify::certify;
 use crate::compared::compare;
 use crate::cover::cover;
+use crate::lossy::Lossy;
 use crate::request::{explain, explain_end, serve_program};
 use crate::tell::{Detail, Teller};
 use command::Request;
@@ -60,6 +61,7 @@ pub fn serve<
         (W.contents out.old) (W.contents out.new) }
     ensures untouched { result ≡ 1 → W.contents out.new ≡ W.contents out.old }
 {
+    let mut err = Lossy::new(err);
     match request {
         Request::Program {
             file,
@@ -68,7 +70,7 @@ pub fn serve<
             task,
         } => {
             let detail = Detail::of(file.as_str(), *verbose, *format, is_terminal);
-            let mut teller = Teller::new(err, detail);
+            let mut teller = Teller::new(&mut err, detail);
             serve_program(rt, alloc, task, source, schedule, out, &mut teller)
         }
         Request::Certify {
@@ -78,7 +80,7 @@ pub fn serve<
             claim,
         } => {
             let detail = Detail::of(file.as_str(), *verbose, *format, is_terminal);
-            let mut teller = Teller::new(err, detail);
+            let mut teller = Teller::new(&mut err, detail);
             certify(alloc, claim, source, schedule, report, out, &mut teller)
         }
         Request::Compare {
@@ -88,7 +90,7 @@ pub fn serve<
             comparison,
         } => {
             let detail = Detail::of(file.as_str(), *verbose, *format, is_terminal);
-            let mut teller = Teller::new(err, detail);
+            let mut teller = Teller::new(&mut err, detail);
             compare(alloc, comparison, source, report, out, &mut teller)
         }
         Request::Ask {
@@ -98,7 +100,7 @@ pub fn serve<
             questions,
         } => {
             let detail = Detail::of(file.as_str(), *verbose, *format, is_terminal);
-            let mut teller = Teller::new(err, detail);
+            let mut teller = Teller::new(&mut err, detail);
             ask(alloc, questions, source, out, &mut teller)
         }
         Request::Cover {
@@ -108,10 +110,10 @@ pub fn serve<
             coverage,
         } => {
             let detail = Detail::of(file.as_str(), *verbose, *format, is_terminal);
-            let mut teller = Teller::new(err, detail);
+            let mut teller = Teller::new(&mut err, detail);
             cover(alloc, coverage, source, out, &mut teller)
         }
-        Request::Explain { number } => explain(*number, out, err),
-        Request::ExplainEnd { word, number } => explain_end(word.as_str(), *number, out, err),
+        Request::Explain { number } => explain(*number, out, &mut err),
+        Request::ExplainEnd { word, number } => explain_end(word.as_str(), *number, out, &mut err),
     }
 }

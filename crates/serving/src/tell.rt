@@ -1,8 +1,11 @@
 //! Reports on standard error.
 
-ghost use Rattle.std.specs.Prelude.{◌≡◌, ◌≢◌, ◌≤◌, ◌⊎◌, is_some, true};
-ghost use Rattle.serving.specs.Refusals.{span_of_source};
+ghost use Rattle.std.specs.Prelude.{◌≡◌, ◌≢◌, ◌≤◌, ◌⊎◌, [], is_some, true};
+ghost use Rattle.std.specs.Io.KnownBytes.{Appends};
 ghost use Rattle.std.specs.IoError.{error_kind};
+ghost use Rattle.fault_lines.specs.Lines.{fault_line};
+ghost use Rattle.serving.specs.Refusals.{span_of_source};
+ghost use Rattle.serving.specs.Told.{TellsMore, TellsFirst, TellsLine};
 ghost use Rattle.serving.specs.Usage.{IsHelp, IsWrong};
 
 use crate::print::{ENDED, REFUSED, STOPPED, UNUSABLE, print};
@@ -10,7 +13,7 @@ use crate::program::SourceFault;
 use crate::results::begin_annotation;
 use crate::run::thread_numbered;
 use command::{Format, UsageFault};
-use fault_lines::words;
+use fault_lines::{Tell, tell_fault, tell_number, words};
 use lex::place;
 use lex::token::Span;
 use meaning::MeaningFault;
@@ -42,7 +45,9 @@ pub struct Detail<'a> {
 
 impl<'a> Detail<'a> {
     /// How faults of a file's program are reported, by the options and by whether standard error is a terminal.
-    pub fn of(file: &'a str, verbose: bool, format: Format, is_terminal: bool) -> Detail<'a> {
+    pub fn of(file: &'a str, verbose: bool, format: Format, is_terminal: bool) -> Detail<'a>
+        ensures { result.format ≡ format }
+    {
         Detail {
             lines: match format {
                 Format::Plain => verbose || is_terminal,
@@ -82,23 +87,25 @@ impl<'a> Detail<'a> {
 }
 
 /// Reports faults of a file's program and the progress of a search, as its detail says. A report that has only one form
-/// takes the writer itself. Text that the writer does not take is lost.
-#[derive(Drop)]
+/// takes the writer itself. #[derive(Drop)]
 pub struct Teller<'a, E: Write> {
     /// The writer for reports.
-    pub(crate) err: &'a mut E,
+    pub(crate) err: E,
     /// The detail of the reports.
     pub(crate) detail: Detail<'a>,
 }
 
 impl<'a, E: Write> Teller<'a, E> {
     /// Reports to this writer, with this detail.
-    pub fn new(err: &'a mut E, detail: Detail<'a>) -> Teller<'a, E> {
+    pub fn new(err: E, detail: Detail<'a>) -> Teller<'a, E>
+        ensures err { result.err ≡ err }
+        ensures detail { result.detail ≡ detail }
+    {
         Teller { err, detail }
     }
 }
 
-impl<E: Write> Teller<'_, E> {
+impl<E: Tell> Teller<'_, E> {
     /// Shows traces of a search's first findings if they are wanted.
     pub(crate) fn show_traces(&mut self, are_wanted: bool) {
         if are_wanted {
@@ -118,6 +125,8 @@ impl<E: Write> Teller<'_, E> {
         ensures not_unusable { result ≢ 2 }
         ensures not_trapped { result ≢ 3 }
         ensures refused { result ≡ 1 → is_some (span_of_source fault) ≡ true }
+        ensures told { result ≡ 1 → self.old.detail.format ≡ Format.Plain
+            → TellsLine text.now fault (E.contents self.old.err) (E.contents self.new.err) }
     {
         let number = fault.number();
         match fault.span() {
@@ -125,7 +134,7 @@ impl<E: Write> Teller<'_, E> {
                 self.tell_with_line(alloc, text, number, span);
                 REFUSED
             }
-            None => out_of_memory(self.err),
+            None => out_of_memory(&mut self.err),
         }
     }
 
@@ -136,35 +145,60 @@ impl<E: Write> Teller<'_, E> {
         text: &str,
         number: u32,
         span: Span,
-    ) {
+    )
+        ensures told { self.old.detail.format ≡ Format.Plain
+            → TellsFirst (fault_line text.now number span) (E.contents self.old.err) (E.contents self.new.err) }
+    {
         self.tell_fault(alloc, text, number, span);
+        self.tell_more(alloc, text, number, span);
+    }
+
+    /// If lines are wanted, shows the source line of a fault, hints, and where to read more.
+    fn tell_more<A: Allocator + Copy>(&mut self, alloc: A, text: &str, number: u32, span: Span)
+        ensures { TellsMore (E.contents self.old.err) (E.contents self.new.err) }
+    {
         if self.detail.lines {
-            show_line(alloc, text, span, self.err);
-            show_hints(alloc, text, number, span, self.err);
-            show_where_more(number, self.err);
+            show_line(alloc, text, span, &mut self.err);
+            show_hints(alloc, text, number, span, &mut self.err);
+            show_where_more(number, &mut self.err);
         }
     }
 
     /// Reports the fault of this number at a span of the source. After an allocation failure, the plain form replaces
     /// any other form.
-    fn tell_fault<A: Allocator + Copy>(&mut self, alloc: A, text: &str, number: u32, span: Span) {
-        if let Some(line) = line_of(alloc, text, number, span, self.detail) {
-            let _ = self.err.write_all(line.as_slice());
-        } else if self.detail.format == Format::Github {
-            let (line, column) = place(text, span.start.min(text.len()));
-            begin_annotation("error", self);
-            let _ = writeln!(
-                self.err,
-                ",line={line},col={column},title=fault {number:02}::{}",
-                words(number)
-            );
-        } else {
-            let (line, column) = place(text, span.start.min(text.len()));
-            let _ = writeln!(
-                self.err,
-                "txc: fault {number:02} at {line}:{column}: {}",
-                words(number)
-            );
+    fn tell_fault<A: Allocator + Copy>(&mut self, alloc: A, text: &str, number: u32, span: Span)
+        ensures told { self.old.detail.format ≡ Format.Plain
+            → Appends (E.contents self.old.err) (E.contents self.new.err) (fault_line text.now number span) }
+    {
+        match self.detail.format {
+            Format::Plain => tell_fault(text, number, span, &mut self.err),
+            Format::Github => self.annotate_fault(text, number, span),
+            Format::Short | Format::Json => self.tell_for_editors(alloc, text, number, span),
+        }
+    }
+
+    /// Annotates the source with a fault.
+    fn annotate_fault(&mut self, text: &str, number: u32, span: Span) {
+        let (line, column) = place(text, span.start.min(text.len()));
+        begin_annotation("error", self);
+        let _ = writeln!(
+            self.err,
+            ",line={line},col={column},title=fault {number:02}::{}",
+            words(number)
+        );
+    }
+
+    /// Reports a fault in a form for editors. After an allocation failure, the plain form replaces it.
+    fn tell_for_editors<A: Allocator + Copy>(
+        &mut self,
+        alloc: A,
+        text: &str,
+        number: u32,
+        span: Span,
+    ) {
+        match line_of(alloc, text, number, span, self.detail) {
+            Some(line) => self.err.tell(line.as_slice()),
+            None => tell_fault(text, number, span, &mut self.err),
         }
     }
 
@@ -172,7 +206,7 @@ impl<E: Write> Teller<'_, E> {
     fn show_words(&mut self, number: u32) {
         if self.detail.lines {
             let _ = writeln!(self.err, "{}", words(number));
-            show_where_more(number, self.err);
+            show_where_more(number, &mut self.err);
         }
     }
 
@@ -183,7 +217,7 @@ impl<E: Write> Teller<'_, E> {
         match self.detail.format {
             Format::Plain => {
                 let _ = self.err.write_all(b"txc: cannot read ");
-                let _ = write_shown(file, "", self.err);
+                let _ = write_shown(file, "", &mut self.err);
                 let _ = if self.detail.reasons {
                     writeln!(self.err, " ({error})")
                 } else {
@@ -201,10 +235,10 @@ impl<E: Write> Teller<'_, E> {
     fn tell_of_file(&mut self, file: &str, what: &str) {
         if self.detail.format == Format::Json {
             let _ = self.err.write_all(b"{\"file\":");
-            let _ = write_quoted(file, self.err);
+            let _ = write_quoted(file, &mut self.err);
             let _ = writeln!(self.err, ",\"message\":\"{what}\"}}");
         } else {
-            let _ = write_shown(file, "", self.err);
+            let _ = write_shown(file, "", &mut self.err);
             let _ = writeln!(self.err, ": error: {what}");
         }
     }
@@ -216,7 +250,7 @@ impl<E: Write> Teller<'_, E> {
         match self.detail.format {
             Format::Plain => {
                 let _ = self.err.write_all(b"txc: ");
-                let _ = write_shown(file, "", self.err);
+                let _ = write_shown(file, "", &mut self.err);
                 let _ = writeln!(self.err, " is not UTF-8");
             }
             Format::Short | Format::Json | Format::Github => {
@@ -233,22 +267,31 @@ impl<E: Write> Teller<'_, E> {
         ensures others { error_kind error.now ≢ ErrorKind.OutOfMemory → result ≡ 2 }
     {
         match error.kind() {
-            ErrorKind::OutOfMemory => out_of_memory(self.err),
+            ErrorKind::OutOfMemory => out_of_memory(&mut self.err),
             _ => self.cannot_read(file, error),
         }
     }
 
     /// Reports that a source has too many bytes.
     pub(crate) fn too_long<A: Allocator + Copy>(&mut self, alloc: A) -> u8
-        ensures { result ≡ 1 }
+        ensures status { result ≡ 1 }
+        ensures told { self.old.detail.format ≡ Format.Plain → TellsFirst
+            (fault_line [] 5 (record { start = 0; «end» = 0 })) (E.contents self.old.err) (E.contents self.new.err) }
     {
         let span = Span { start: 0, end: 0 };
         self.tell_fault(alloc, "", 5, span);
-        if self.detail.lines {
-            show_hints(alloc, "", 5, span, self.err);
-            show_where_more(5, self.err);
-        }
+        self.tell_hints(alloc, 5, span);
         REFUSED
+    }
+
+    /// If lines are wanted, shows hints about a fault that has no line, and where to read more.
+    fn tell_hints<A: Allocator + Copy>(&mut self, alloc: A, number: u32, span: Span)
+        ensures { TellsMore (E.contents self.old.err) (E.contents self.new.err) }
+    {
+        if self.detail.lines {
+            show_hints(alloc, "", number, span, &mut self.err);
+            show_where_more(number, &mut self.err);
+        }
     }
 
     /// Reports why threads were not run.
@@ -256,7 +299,7 @@ impl<E: Write> Teller<'_, E> {
         ensures { result ≡ 4 }
     {
         match fault {
-            RunFault::OutOfMemory => out_of_memory(self.err),
+            RunFault::OutOfMemory => out_of_memory(&mut self.err),
             RunFault::Threads | RunFault::NotStarted => self.tell_number(fault.number(), STOPPED),
         }
     }
@@ -287,11 +330,16 @@ impl<E: Write> Teller<'_, E> {
         ensures { (result ≡ 2) ⊎ (result ≡ 4) }
     {
         match fault {
-            ScheduleFault::OutOfMemory => return out_of_memory(self.err),
+            ScheduleFault::OutOfMemory => return out_of_memory(&mut self.err),
             ScheduleFault::BadLine(line) => {
                 let _ = writeln!(self.err, "txc: fault {} at line {line}", fault.number());
                 if self.detail.lines {
-                    show_line(alloc, text, span_of_line(text.as_bytes(), line), self.err);
+                    show_line(
+                        alloc,
+                        text,
+                        span_of_line(text.as_bytes(), line),
+                        &mut self.err,
+                    );
                 }
             }
             ScheduleFault::TooLong => {
@@ -310,7 +358,7 @@ impl<E: Write> Teller<'_, E> {
         ensures threads { fault ≡ MeaningFault.WrongThreads → result ≡ 4 }
     {
         match fault {
-            MeaningFault::OutOfMemory => out_of_memory(self.err),
+            MeaningFault::OutOfMemory => out_of_memory(&mut self.err),
             MeaningFault::Stranger => self.tell_number(fault.number(), UNUSABLE),
             MeaningFault::WrongThreads => self.tell_number(fault.number(), STOPPED),
         }
@@ -370,33 +418,36 @@ fn line_of<A: Allocator + Copy>(
 
 /// Shows the source line in which a span begins, with carets under the span. After an allocation failure, it shows
 /// nothing.
-pub(crate) fn show_line<A: Allocator + Copy, E: Write>(
-    alloc: A,
-    text: &str,
-    span: Span,
-    err: &mut E,
-) {
+pub(crate) fn show_line<A: Allocator + Copy, E: Tell>(alloc: A, text: &str, span: Span, err: &mut E)
+    ensures { TellsMore (E.contents err.old) (E.contents err.new) }
+{
     if let Ok(shown) = underline(alloc, text, span) {
-        let _ = err.write_all(shown.as_str().as_bytes());
+        err.tell(shown.as_str().as_bytes());
     }
 }
 
 /// Shows what could be at the place of a fault, or what is meant there. Shows nothing after an allocation failure.
-fn show_hints<A: Allocator + Copy, E: Write>(
+fn show_hints<A: Allocator + Copy, E: Tell>(
     alloc: A,
     text: &str,
     number: u32,
     span: Span,
     err: &mut E,
-) {
+)
+    ensures { TellsMore (E.contents err.old) (E.contents err.new) }
+{
     if let Ok(shown) = hints(alloc, text, number, span) {
-        let _ = err.write_all(shown.as_str().as_bytes());
+        err.tell(shown.as_str().as_bytes());
     }
 }
 
 /// Reports where to read more about a fault.
-fn show_where_more<E: Write>(number: u32, err: &mut E) {
-    let _ = writeln!(err, "txc explain {number:02} says more");
+fn show_where_more<E: Tell>(number: u32, err: &mut E)
+    ensures { TellsMore (E.contents err.old) (E.contents err.new) }
+{
+    err.tell(b"txc explain ");
+    tell_number(number, err);
+    err.tell(b" says more\n");
 }
 
 /// Reports an allocation failure.

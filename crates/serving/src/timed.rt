@@ -1,5 +1,6 @@
 //! A writer that appends the elapsed seconds to a progress line, and reports when a time limit is reached.
 
+use fault_lines::Tell;
 use std::io;
 use std::io::{ErrorKind, Write};
 use std::time::{Clock, Instant};
@@ -129,5 +130,11 @@ impl<W: Write, C: Clock> Write for Timed<'_, W, C> {
             }
         }
         Ok(())
+    }
+}
+
+impl<W: Tell, C: Clock> Tell for Timed<'_, W, C> {
+    fn tell(&mut self, bytes: &[u8]) {
+        self.writer.tell(bytes)
     }
 }

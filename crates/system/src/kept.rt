@@ -7,7 +7,7 @@ ghost use Rattle.serving.specs.Numbers.{IsSource, other_of};
 ghost use Rattle.system.specs.Kept.{AreKnown, AreReadFrom, IsFileKnown, IsReadAsSource, IsReadFrom, StayKnown, kept_in};
 
 use command::{Against, Format, Request};
-use serving::{Detail, Files, Teller, read_bytes, schedule_of};
+use serving::{Detail, Files, Lossy, Teller, read_bytes, schedule_of};
 use std::alloc::Global;
 use std::io;
 use std::io::{ErrorKind, Read, Write};
@@ -166,7 +166,7 @@ fn keep<F: Files, E: Write>(
         Ok(()) => Ok(()),
         Err(error) => {
             let detail = Detail::of(named.name, named.verbose, named.format, false);
-            Err(Teller::new(err, detail).not_read(named.name, &error))
+            Err(Teller::new(Lossy::new(err), detail).not_read(named.name, &error))
         }
     }
 }
