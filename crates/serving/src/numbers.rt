@@ -327,7 +327,7 @@ fn serve_sources<
         alloc,
         files,
         sources.file,
-        &mut Teller::new(Lossy::new(err), detail),
+        &mut Teller::new(Lossy::new(&mut *err), detail),
     ) {
         Ok(bytes) => bytes,
         Err(status) => return status,
@@ -340,7 +340,7 @@ fn serve_sources<
         alloc,
         files,
         sources.other,
-        &mut Teller::new(Lossy::new(err), detail),
+        &mut Teller::new(Lossy::new(&mut *err), detail),
     ) {
         Ok(other) => {
             let read = (bytes.as_slice(), other.as_slice());

@@ -6,7 +6,6 @@ use crate::properties::PropertiesFound;
 use crate::tell::Teller;
 use crate::walked::OutcomesFound;
 use command::Format;
-use fault_lines::Tell;
 use lex::place;
 use messages::write_quoted;
 use report::{End, Finding, Property, ReportedOrder, ThreadShown, WalkEnd};
@@ -17,7 +16,7 @@ use syntax::number::number;
 use syntax::tree::{Item, Unit};
 
 /// Reports a list of outcomes and stuck orders.
-pub(crate) fn tell_list<A: Allocator, E: Tell>(
+pub(crate) fn tell_list<A: Allocator, E: Write>(
     found: &OutcomesFound<A>,
     threads: u32,
     status: u8,
@@ -45,7 +44,7 @@ pub(crate) fn tell_list<A: Allocator, E: Tell>(
 }
 
 /// Reports the answers about properties of a program, and stuck orders.
-pub(crate) fn tell_answers<A: Allocator, E: Tell>(
+pub(crate) fn tell_answers<A: Allocator, E: Write>(
     text: &str,
     unit: &Unit<A>,
     found: &PropertiesFound<A>,
@@ -185,7 +184,7 @@ fn put_property<A: Allocator, E: Write>(one: &Property<A>, err: &mut E) {
 }
 
 /// Annotates the function of a property that fails, takes too long, or has no answer.
-fn annotate<A: Allocator, E: Tell>(
+fn annotate<A: Allocator, E: Write>(
     text: &str,
     unit: &Unit<A>,
     one: &Property<A>,
@@ -198,7 +197,7 @@ fn annotate<A: Allocator, E: Tell>(
         Finding::Fails(order) => ("error", "fails", Some(order)),
         Finding::Spent(order) => ("error", "takes too long", Some(order)),
     };
-    begin_annotation(kind, teller);
+    begin_annotation(kind, teller.detail.file, &mut teller.err);
     if let Some(start) = start_of(unit, name) {
         let (line, column) = place(text, start.min(text.len()));
         let _ = write!(teller.err, ",line={line},col={column}");
@@ -211,9 +210,9 @@ fn annotate<A: Allocator, E: Tell>(
 }
 
 /// Annotates the source with each stuck order.
-fn annotate_stuck<A: Allocator, E: Tell>(stuck: &[ReportedOrder<A>], teller: &mut Teller<'_, E>) {
+fn annotate_stuck<A: Allocator, E: Write>(stuck: &[ReportedOrder<A>], teller: &mut Teller<'_, E>) {
     'stuck: for one in stuck {
-        begin_annotation("error", teller);
+        begin_annotation("error", teller.detail.file, &mut teller.err);
         let _ = teller
             .err
             .write_all(b",title=stuck::no continuation lets all threads end");
@@ -231,15 +230,14 @@ fn put_order<E: Write>(order: &[u32], err: &mut E) {
     push_numbers(order, err);
 }
 
-/// Begins an annotation of the source's file.
-pub(crate) fn begin_annotation<E: Tell>(kind: &str, teller: &mut Teller<'_, E>) {
-    let _ = write!(teller.err, "::{kind} file=");
-    let file = teller.detail.file;
+/// Begins an annotation of a file.
+pub(crate) fn begin_annotation<E: Write>(kind: &str, file: &str, err: &mut E) {
+    let _ = write!(err, "::{kind} file=");
     'characters: for c in file.chars() {
         if c.is_control() || c == '%' || c == ',' || c == ':' {
-            let _ = write!(teller.err, "%{:02X}", u32::from(c));
+            let _ = write!(err, "%{:02X}", u32::from(c));
         } else {
-            let _ = write!(teller.err, "{c}");
+            let _ = write!(err, "{c}");
         }
     }
 }

@@ -148,6 +148,7 @@ impl<E: Tell> Teller<'_, E> {
     )
         ensures told { self.old.detail.format ≡ Format.Plain
             → TellsFirst (fault_line text.now number span) (E.contents self.old.err) (E.contents self.new.err) }
+        ensures kept { self.new.detail ≡ self.old.detail }
     {
         self.tell_fault(alloc, text, number, span);
         self.tell_more(alloc, text, number, span);
@@ -155,7 +156,8 @@ impl<E: Tell> Teller<'_, E> {
 
     /// If lines are wanted, shows the source line of a fault, hints, and where to read more.
     fn tell_more<A: Allocator + Copy>(&mut self, alloc: A, text: &str, number: u32, span: Span)
-        ensures { TellsMore (E.contents self.old.err) (E.contents self.new.err) }
+        ensures kept { self.new.detail ≡ self.old.detail }
+        ensures more { TellsMore (E.contents self.old.err) (E.contents self.new.err) }
     {
         if self.detail.lines {
             show_line(alloc, text, span, &mut self.err);
@@ -169,6 +171,7 @@ impl<E: Tell> Teller<'_, E> {
     fn tell_fault<A: Allocator + Copy>(&mut self, alloc: A, text: &str, number: u32, span: Span)
         ensures told { self.old.detail.format ≡ Format.Plain
             → Appends (E.contents self.old.err) (E.contents self.new.err) (fault_line text.now number span) }
+        ensures kept { self.new.detail ≡ self.old.detail }
     {
         match self.detail.format {
             Format::Plain => tell_fault(text, number, span, &mut self.err),
@@ -178,9 +181,11 @@ impl<E: Tell> Teller<'_, E> {
     }
 
     /// Annotates the source with a fault.
-    fn annotate_fault(&mut self, text: &str, number: u32, span: Span) {
+    fn annotate_fault(&mut self, text: &str, number: u32, span: Span)
+        ensures { self.new.detail ≡ self.old.detail }
+    {
         let (line, column) = place(text, span.start.min(text.len()));
-        begin_annotation("error", self);
+        begin_annotation("error", self.detail.file, &mut self.err);
         let _ = writeln!(
             self.err,
             ",line={line},col={column},title=fault {number:02}::{}",
@@ -195,7 +200,9 @@ impl<E: Tell> Teller<'_, E> {
         text: &str,
         number: u32,
         span: Span,
-    ) {
+    )
+        ensures { self.new.detail ≡ self.old.detail }
+    {
         match line_of(alloc, text, number, span, self.detail) {
             Some(line) => self.err.tell(line.as_slice()),
             None => tell_fault(text, number, span, &mut self.err),
