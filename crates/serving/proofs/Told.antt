@@ -24,6 +24,9 @@ use Rattle.serving.specs.Told.{TellsMore, TellsAsked, TellsFirst, TellsLine, Tel
 pub tells_nothing_more : (a : Option (List ℕ)) → TellsMore a a
 tells_nothing_more a = ([], Appends-nil a)
 
+pub told_some : (bytes : List ℕ) (a b : Option (List ℕ)) → Appends a b bytes → TellsMore a b
+told_some bytes a b told = (bytes, told)
+
 pub tells_more : (a b c : Option (List ℕ)) → TellsMore a b → TellsMore b c → TellsMore a c
 tells_more a b c first more = (first.0 ++ more.0, Appends-trans a b c first.0 more.0 first.1 more.1)
 

@@ -48,6 +48,7 @@ pub(crate) fn check<A: Allocator + Copy, W: Write, E: Tell>(
 }
 
 /// Reports the further faults of a refused source, if it is asked to or if standard error is a terminal.
+#[tactic(auto, using(crate::proofs::Told::told_some, crate::proofs::Told::tells_nothing_more, crate::proofs::Told::tells_more))]
 fn tell_further<A: Allocator + Copy, E: Tell>(
     alloc: A,
     text: &str,

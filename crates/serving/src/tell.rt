@@ -139,6 +139,7 @@ impl<E: Tell> Teller<'_, E> {
     }
 
     /// Reports the fault of this number at a span of the source, and shows the source line if lines are wanted.
+    #[tactic(auto, using(crate::proofs::Told::first_told))]
     pub(crate) fn tell_with_line<A: Allocator + Copy>(
         &mut self,
         alloc: A,
@@ -155,6 +156,7 @@ impl<E: Tell> Teller<'_, E> {
     }
 
     /// If lines are wanted, shows the source line of a fault, hints, and where to read more.
+    #[tactic(auto, using(crate::proofs::Told::told_some, crate::proofs::Told::tells_nothing_more, crate::proofs::Told::tells_more))]
     fn tell_more<A: Allocator + Copy>(&mut self, alloc: A, text: &str, number: u32, span: Span)
         ensures kept { self.new.detail ≡ self.old.detail }
         ensures more { TellsMore (E.contents self.old.err) (E.contents self.new.err) }
@@ -280,6 +282,7 @@ impl<E: Tell> Teller<'_, E> {
     }
 
     /// Reports that a source has too many bytes.
+    #[tactic(auto, using(crate::proofs::Told::first_told))]
     pub(crate) fn too_long<A: Allocator + Copy>(&mut self, alloc: A) -> u8
         ensures status { result ≡ 1 }
         ensures told { self.old.detail.format ≡ Format.Plain → TellsFirst
@@ -292,6 +295,7 @@ impl<E: Tell> Teller<'_, E> {
     }
 
     /// If lines are wanted, shows hints about a fault that has no line, and where to read more.
+    #[tactic(auto, using(crate::proofs::Told::told_some, crate::proofs::Told::tells_nothing_more, crate::proofs::Told::tells_more))]
     fn tell_hints<A: Allocator + Copy>(&mut self, alloc: A, number: u32, span: Span)
         ensures { TellsMore (E.contents self.old.err) (E.contents self.new.err) }
     {
@@ -425,6 +429,7 @@ fn line_of<A: Allocator + Copy>(
 
 /// Shows the source line in which a span begins, with carets under the span. After an allocation failure, it shows
 /// nothing.
+#[tactic(auto, using(crate::proofs::Told::told_some, crate::proofs::Told::tells_nothing_more, crate::proofs::Told::tells_more))]
 pub(crate) fn show_line<A: Allocator + Copy, E: Tell>(alloc: A, text: &str, span: Span, err: &mut E)
     ensures { TellsMore (E.contents err.old) (E.contents err.new) }
 {
@@ -434,6 +439,7 @@ pub(crate) fn show_line<A: Allocator + Copy, E: Tell>(alloc: A, text: &str, span
 }
 
 /// Shows what could be at the place of a fault, or what is meant there. Shows nothing after an allocation failure.
+#[tactic(auto, using(crate::proofs::Told::told_some, crate::proofs::Told::tells_nothing_more, crate::proofs::Told::tells_more))]
 fn show_hints<A: Allocator + Copy, E: Tell>(
     alloc: A,
     text: &str,
@@ -449,6 +455,7 @@ fn show_hints<A: Allocator + Copy, E: Tell>(
 }
 
 /// Reports where to read more about a fault.
+#[tactic(auto, using(crate::proofs::Told::told_some, crate::proofs::Told::tells_nothing_more, crate::proofs::Told::tells_more))]
 fn show_where_more<E: Tell>(number: u32, err: &mut E)
     ensures { TellsMore (E.contents err.old) (E.contents err.new) }
 {
