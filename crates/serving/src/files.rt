@@ -66,6 +66,7 @@ pub fn serve_files<
     ensures refused { result ≡ 1 → RefusesSource request.now (F.contents files.now) }
     ensures untouched { result ≡ 1 → W.contents out.new ≡ W.contents out.old }
 {
+    let is_terminal = err.is_terminal();
     let mut err = Lossy::new(err);
     match request {
         Request::Program {
@@ -75,7 +76,7 @@ pub fn serve_files<
             task,
         } => {
             let file = file.as_str();
-            let detail = Detail::of(file, *verbose, *format, err.is_terminal());
+            let detail = Detail::of(file, *verbose, *format, is_terminal);
             match task {
                 Task::Outcomes { time, .. } => {
                     let mut timed = Timed::new(&mut err, rt, *time);
@@ -94,7 +95,7 @@ pub fn serve_files<
             format,
             claim,
         } => {
-            let detail = Detail::of(file.as_str(), *verbose, *format, err.is_terminal());
+            let detail = Detail::of(file.as_str(), *verbose, *format, is_terminal);
             let mut teller = Teller::new(&mut err, detail);
             open_claim(alloc, file.as_str(), claim, files, out, &mut teller)
         }
@@ -104,7 +105,7 @@ pub fn serve_files<
             format,
             comparison,
         } => {
-            let detail = Detail::of(file.as_str(), *verbose, *format, err.is_terminal());
+            let detail = Detail::of(file.as_str(), *verbose, *format, is_terminal);
             let mut timed = Timed::new(&mut err, rt, comparison.time);
             let mut teller = Teller::new(&mut timed, detail);
             open_comparison(alloc, file.as_str(), comparison, files, out, &mut teller)
@@ -115,7 +116,7 @@ pub fn serve_files<
             format,
             questions,
         } => {
-            let detail = Detail::of(file.as_str(), *verbose, *format, err.is_terminal());
+            let detail = Detail::of(file.as_str(), *verbose, *format, is_terminal);
             let mut timed = Timed::new(&mut err, rt, questions.time);
             let mut teller = Teller::new(&mut timed, detail);
             open_asked(alloc, file.as_str(), questions, files, out, &mut teller)
@@ -126,7 +127,7 @@ pub fn serve_files<
             format,
             coverage,
         } => {
-            let detail = Detail::of(file.as_str(), *verbose, *format, err.is_terminal());
+            let detail = Detail::of(file.as_str(), *verbose, *format, is_terminal);
             let mut timed = Timed::new(&mut err, rt, None);
             let mut teller = Teller::new(&mut timed, detail);
             open_covered(alloc, file.as_str(), coverage, files, out, &mut teller)

@@ -113,7 +113,7 @@ fn is_answered<A: Allocator>(one: &Property<A>) -> bool {
 }
 
 /// Reports which properties have an answer and which have none, if some have one.
-fn tell_answered<A: Allocator, E: Write>(properties: &[Property<A>], err: &mut E) {
+fn tell_answered<A: Allocator, E: Tell>(properties: &[Property<A>], err: &mut E) {
     if properties.iter().any(|one| is_answered(one)) {
         tell_names(b"txc: answered: ", properties, true, err);
         tell_names(b"txc: not answered: ", properties, false, err);
@@ -121,7 +121,7 @@ fn tell_answered<A: Allocator, E: Write>(properties: &[Property<A>], err: &mut E
 }
 
 /// Reports the names of the properties that have an answer, or of those that have none, after these words.
-fn tell_names<A: Allocator, E: Write>(
+fn tell_names<A: Allocator, E: Tell>(
     words: &[u8],
     properties: &[Property<A>],
     have_answer: bool,
@@ -144,7 +144,7 @@ fn tell_names<A: Allocator, E: Write>(
 const LONG_TICKS: u64 = 1000000;
 
 /// Reports why a search stopped.
-fn tell_reason<A: Allocator + Copy, E: Write>(
+fn tell_reason<A: Allocator + Copy, E: Tell>(
     alloc: A,
     text: &str,
     accepted: &Accepted<A>,
@@ -173,7 +173,7 @@ fn tell_reason<A: Allocator + Copy, E: Write>(
 }
 
 /// Reports which option lets a stopped search continue.
-pub(crate) fn tell_stop<E: Write>(end: WalkEnd, err: &mut E) {
+pub(crate) fn tell_stop<E: Tell>(end: WalkEnd, err: &mut E) {
     let words = match end {
         WalkEnd::Whole => return,
         WalkEnd::AtLimit => "--limit L is how many states it looks at",
@@ -186,7 +186,7 @@ pub(crate) fn tell_stop<E: Write>(end: WalkEnd, err: &mut E) {
 }
 
 /// Reports for each of these orders where its threads trapped or wait.
-fn tell_orders<A: Allocator + Copy, E: Write>(
+fn tell_orders<A: Allocator + Copy, E: Tell>(
     alloc: A,
     text: &str,
     accepted: &Accepted<A>,
@@ -213,7 +213,7 @@ fn have_all_ended<A: Allocator>(threads: &[ThreadShown<A>]) -> bool {
 }
 
 /// Reports where the threads of an order trapped or wait, if one is at a place that has not been shown yet.
-fn tell_order<A: Allocator + Copy, E: Write>(
+fn tell_order<A: Allocator + Copy, E: Tell>(
     alloc: A,
     text: &str,
     accepted: &Accepted<A>,
@@ -233,7 +233,7 @@ fn tell_order<A: Allocator + Copy, E: Write>(
 }
 
 /// Names the order that the next report is about, as a word of a command line.
-pub(crate) fn write_order<E: Write>(order: &[u32], err: &mut E) {
+pub(crate) fn write_order<E: Tell>(order: &[u32], err: &mut E) {
     let _ = err.write_all(b"txc: with --order ");
     if order.is_empty() {
         let _ = err.write_all(b"''");

@@ -10,10 +10,9 @@ use crate::walked::OutcomesFound;
 use fault_lines::Tell;
 use report::{Finding, ReportedOrder};
 use std::alloc::Allocator;
-use std::io::Write;
 
 /// Reports the trace of the first of these orders.
-fn tell_first<A: Allocator + Copy, E: Write>(
+fn tell_first<A: Allocator + Copy, E: Tell>(
     alloc: A,
     text: &str,
     compiled: &Compiled<A>,
@@ -27,7 +26,7 @@ fn tell_first<A: Allocator + Copy, E: Write>(
 }
 
 /// Reports the trace of the first of these outcomes in which a thread traps.
-fn tell_first_trapped<A: Allocator + Copy, E: Write>(
+fn tell_first_trapped<A: Allocator + Copy, E: Tell>(
     alloc: A,
     text: &str,
     compiled: &Compiled<A>,
@@ -80,7 +79,7 @@ pub(crate) fn tell_asked_traces<A: Allocator + Copy, E: Tell>(
 }
 
 /// Reports the trace of the first order after which a property fails.
-fn tell_first_failure<A: Allocator + Copy, E: Write>(
+fn tell_first_failure<A: Allocator + Copy, E: Tell>(
     alloc: A,
     text: &str,
     compiled: &Compiled<A>,

@@ -2,7 +2,7 @@
 
 use fault_lines::Tell;
 use std::io;
-use std::io::{IsTerminal, Write};
+use std::io::Write;
 
 /// Passes bytes on to a writer. Text that the writer does not take is lost.
 #[derive(Drop)]
@@ -31,11 +31,5 @@ impl<W: Write> Write for Lossy<W> {
 impl<W: Write> Tell for Lossy<W> {
     fn tell(&mut self, bytes: &[u8]) {
         let _ = self.writer.write_all(bytes);
-    }
-}
-
-impl<W: Write + IsTerminal> IsTerminal for Lossy<W> {
-    fn is_terminal(&self) -> bool {
-        self.writer.is_terminal()
     }
 }

@@ -127,6 +127,7 @@ impl<E: Tell> Teller<'_, E> {
         ensures refused { result ≡ 1 → is_some (span_of_source fault) ≡ true }
         ensures told { result ≡ 1 → self.old.detail.format ≡ Format.Plain
             → TellsLine text.now fault (E.contents self.old.err) (E.contents self.new.err) }
+        ensures kept { self.new.detail ≡ self.old.detail }
     {
         let number = fault.number();
         match fault.span() {

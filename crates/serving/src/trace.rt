@@ -110,7 +110,7 @@ fn lines_asked<A: Allocator + Copy, E: Tell>(
 }
 
 /// The exit status if the given function is not a property. The reason is then reported on standard error.
-fn refuse_property<A: Allocator + Copy, E: Write>(
+fn refuse_property<A: Allocator + Copy, E: Tell>(
     alloc: A,
     compiled: &Compiled<A>,
     property: Option<&str>,
@@ -259,7 +259,7 @@ fn words_of_reply<A: Allocator + Copy>(
 }
 
 /// Reports an order and its trace. Reports nothing after an allocation failure, or if the turns make too many steps.
-pub(crate) fn tell_trace<A: Allocator + Copy, E: Write>(
+pub(crate) fn tell_trace<A: Allocator + Copy, E: Tell>(
     alloc: A,
     text: &str,
     compiled: &Compiled<A>,
