@@ -87,7 +87,8 @@ impl<'a> Detail<'a> {
 }
 
 /// Reports faults of a file's program and the progress of a search, as its detail says. A report that has only one form
-/// takes the writer itself. #[derive(Drop)]
+/// takes the writer itself.
+#[derive(Drop)]
 pub struct Teller<'a, E: Write> {
     /// The writer for reports.
     pub(crate) err: E,
