@@ -100,7 +100,7 @@ impl<'a, E: Write> Teller<'a, E> {
     /// Reports to this writer, with this detail.
     pub fn new(err: E, detail: Detail<'a>) -> Teller<'a, E>
         ensures err { result.err ≡ err }
-        ensures detail { result.detail ≡ detail }
+        ensures detail { result.detail ≡ detail.entry }
     {
         Teller { err, detail }
     }
