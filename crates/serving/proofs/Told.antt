@@ -16,7 +16,7 @@ use Rattle.serving.specs.declared.program.SourceFault.{SourceFault}
 use Rattle.serving.specs.declared.program.SourceFault.TheVariants.{Lex}
 use Rattle.serving.specs.Files.{Contents}
 use Rattle.serving.specs.Numbers.{AreWithNumbers}
-use Rattle.serving.specs.Refusals.{IsFaultOfSource}
+use Rattle.serving.specs.Refusals.{IsFaultOfSource, number_of_source}
 use Rattle.serving.specs.Told.{TellsMore, TellsAsked, TellsFirst, TellsLine, TellsOfFiles, TellsPlain, TellsRefusal}
 
 -- ---- what is appended after a line
@@ -30,6 +30,12 @@ told_some bytes a b told = (bytes, told)
 pub tells_more : (a b c : Option (List ℕ)) → TellsMore a b → TellsMore b c → TellsMore a c
 tells_more a b c first more = (first.0 ++ more.0, Appends-trans a b c first.0 more.0 first.1 more.1)
 
+pub told_thrice : (x y z : List ℕ) (a b c d : Option (List ℕ)) → Appends a b x → Appends b c y → Appends c d z → TellsMore a d
+told_thrice x y z a b c d p q r = ((x ++ y) ++ z, Appends-trans a c d (x ++ y) z (Appends-trans a b c x y p q) r)
+
+pub tells_thrice : (a b c d : Option (List ℕ)) → TellsMore a b → TellsMore b c → TellsMore c d → TellsMore a d
+tells_thrice a b c d p q r = tells_more a c d (tells_more a b c p q) r
+
 pub first_told : (line : List ℕ) (a b c : Option (List ℕ)) → Appends a b line → TellsMore b c → TellsFirst line a c
 first_told line a b c told more = (more.0, Appends-trans a b c line more.0 told more.1)
 
@@ -39,7 +45,7 @@ still_first line a b c told more =
     (told.0 ++ more.0, subst (Appends a c) (append_assoc line told.0 more.0) all)
 
 pub still_told : (text : List ℕ) (fault : SourceFault) (a b c : Option (List ℕ)) → TellsLine text fault a b → TellsMore b c → TellsLine text fault a c
-still_told text fault a b c told more = (told.0, told.1, still_first _ a b c told.2 more)
+still_told text fault a b c told more = (told.0, told.1, still_first (fault_line text (number_of_source fault) told.0) a b c told.2 more)
 
 -- ---- a text that was read
 
@@ -69,7 +75,7 @@ source_told task format (Some b) old new t = told_for task format b old new t
 -- a file that is too long
 pub long_told : (known : Option (List ℕ)) (format : Format) (old new : Option (List ℕ)) → IfSome known (λ bytes. MOST_BYTES < length bytes) → (format ≡ Plain → TellsFirst (fault_line [] 5 (record { start = 0; «end» = 0 })) old new) → IfSome known (λ bytes. TellsPlain IsFaultOfSource format bytes old new)
 long_told None format old new long t = tt
-long_told (Some bytes) format old new long t = λ plain. (Lex FileTooLong, long, record { start = 0; «end» = 0 }, refl, t plain)
+long_told (Some bytes) format old new long t = λ plain. (Lex FileTooLong, long, (record { start = 0; «end» = 0 }, refl, t plain))
 
 -- a status that is none of a refusal
 pub unrefused : {P : Type 0} (status : ℕ) → (status ≡ 2) ⊎ (status ≡ 4) → status ≡ 1 → P

@@ -119,7 +119,7 @@ pub(crate) fn tell_faults<A: Allocator + Copy, E: Tell>(
 }
 
 /// Reports how many faults there are, and whether there may be more.
-#[tactic(auto, using(crate::proofs::Told::told_some, crate::proofs::Told::tells_nothing_more, crate::proofs::Told::tells_more))]
+#[tactic(auto, using(crate::proofs::Told::told_some, crate::proofs::Told::tells_nothing_more, crate::proofs::Told::tells_more, crate::proofs::Told::told_thrice, crate::proofs::Told::tells_thrice))]
 fn tell_count<E: Tell>(count: usize, err: &mut E)
     ensures { TellsMore (E.contents err.old) (E.contents err.new) }
 {

@@ -158,7 +158,7 @@ impl<E: Tell> Teller<'_, E> {
     }
 
     /// If lines are wanted, shows the source line of a fault, hints, and where to read more.
-    #[tactic(auto, using(crate::proofs::Told::told_some, crate::proofs::Told::tells_nothing_more, crate::proofs::Told::tells_more))]
+    #[tactic(auto, using(crate::proofs::Told::told_some, crate::proofs::Told::tells_nothing_more, crate::proofs::Told::tells_more, crate::proofs::Told::told_thrice, crate::proofs::Told::tells_thrice))]
     fn tell_more<A: Allocator + Copy>(&mut self, alloc: A, text: &str, number: u32, span: Span)
         ensures kept { self.new.detail ≡ self.old.detail }
         ensures more { TellsMore (E.contents self.old.err) (E.contents self.new.err) }
@@ -297,7 +297,7 @@ impl<E: Tell> Teller<'_, E> {
     }
 
     /// If lines are wanted, shows hints about a fault that has no line, and where to read more.
-    #[tactic(auto, using(crate::proofs::Told::told_some, crate::proofs::Told::tells_nothing_more, crate::proofs::Told::tells_more))]
+    #[tactic(auto, using(crate::proofs::Told::told_some, crate::proofs::Told::tells_nothing_more, crate::proofs::Told::tells_more, crate::proofs::Told::told_thrice, crate::proofs::Told::tells_thrice))]
     fn tell_hints<A: Allocator + Copy>(&mut self, alloc: A, number: u32, span: Span)
         ensures { TellsMore (E.contents self.old.err) (E.contents self.new.err) }
     {
@@ -431,7 +431,7 @@ fn line_of<A: Allocator + Copy>(
 
 /// Shows the source line in which a span begins, with carets under the span. After an allocation failure, it shows
 /// nothing.
-#[tactic(auto, using(crate::proofs::Told::told_some, crate::proofs::Told::tells_nothing_more, crate::proofs::Told::tells_more))]
+#[tactic(auto, using(crate::proofs::Told::told_some, crate::proofs::Told::tells_nothing_more, crate::proofs::Told::tells_more, crate::proofs::Told::told_thrice, crate::proofs::Told::tells_thrice))]
 pub(crate) fn show_line<A: Allocator + Copy, E: Tell>(alloc: A, text: &str, span: Span, err: &mut E)
     ensures { TellsMore (E.contents err.old) (E.contents err.new) }
 {
@@ -441,7 +441,7 @@ pub(crate) fn show_line<A: Allocator + Copy, E: Tell>(alloc: A, text: &str, span
 }
 
 /// Shows what could be at the place of a fault, or what is meant there. Shows nothing after an allocation failure.
-#[tactic(auto, using(crate::proofs::Told::told_some, crate::proofs::Told::tells_nothing_more, crate::proofs::Told::tells_more))]
+#[tactic(auto, using(crate::proofs::Told::told_some, crate::proofs::Told::tells_nothing_more, crate::proofs::Told::tells_more, crate::proofs::Told::told_thrice, crate::proofs::Told::tells_thrice))]
 fn show_hints<A: Allocator + Copy, E: Tell>(
     alloc: A,
     text: &str,
@@ -457,7 +457,7 @@ fn show_hints<A: Allocator + Copy, E: Tell>(
 }
 
 /// Reports where to read more about a fault.
-#[tactic(auto, using(crate::proofs::Told::told_some, crate::proofs::Told::tells_nothing_more, crate::proofs::Told::tells_more))]
+#[tactic(auto, using(crate::proofs::Told::told_some, crate::proofs::Told::tells_nothing_more, crate::proofs::Told::tells_more, crate::proofs::Told::told_thrice, crate::proofs::Told::tells_thrice))]
 fn show_where_more<E: Tell>(number: u32, err: &mut E)
     ensures { TellsMore (E.contents err.old) (E.contents err.new) }
 {
