@@ -42,8 +42,12 @@ const PRINTS: &[u8] =
 /// An invalid question.
 const BAD: &[u8] = b"void worker(int self) { }\n  // txc: --threads 65\n";
 
+/// A comment in the third column of line 2 that resembles a question.
+const MISSPELLED_2_3: &str =
+    "txc: a.c:2:3: not a question: its line must begin with the words // and txc:\n";
+
 fn rows() -> &'static [Row] {
-    static ROWS: [Row; 15] = [
+    static ROWS: [Row; 19] = [
         (
             "txc test a.c",
             Ok(BROKEN),
@@ -142,9 +146,39 @@ fn rows() -> &'static [Row] {
         ),
         (
             "txc test a.c",
-            Ok(b"int x; // txc: --always f\n//txc: --always f\n"),
+            Ok(b"int x; // txc is a program\n//txc\n/* see // txc: */\nint y = x / 2 // txc: 1\n;"),
             NONE,
             (2, "", "", "txc: no line begins with // txc:\n"),
+        ),
+        // comments that resemble a question
+        (
+            "txc test a.c",
+            Ok(b"// txc: --threads 1\n  //txc: --always f\n"),
+            NONE,
+            (2, "", "", MISSPELLED_2_3),
+        ),
+        (
+            "txc test --list a.c",
+            Ok(b"// txc:\nint x; // txc: --always f\n"),
+            NONE,
+            (
+                2,
+                "",
+                "",
+                "txc: a.c:2:8: not a question: its line must begin with the words // and txc:\n",
+            ),
+        ),
+        (
+            "txc test a.c",
+            Ok(b"// txc:\n\t //// TXC  --always f\n"),
+            NONE,
+            (2, "", "", MISSPELLED_2_3),
+        ),
+        (
+            "txc test a.c",
+            Ok(b"// txc:\n  /* txc : --always f */\n"),
+            NONE,
+            (2, "", "", MISSPELLED_2_3),
         ),
         (
             "txc test a.c s.txt",
