@@ -7,6 +7,7 @@ use std::sync::Wait;
 use std::thread::Threads;
 use std::time::Clock;
 use system::serve_words;
+use test_serving::ADDS;
 
 /// A command line, the contents of its two files, the exit status, how the output begins and ends, and the text on
 /// standard error. The time is between the beginning and the end.
@@ -35,6 +36,14 @@ const TRAPS: &[u8] = b"void worker(int self) { int a = 1 / self; }\n// txc: (tra
 const STUCK: &[u8] =
     b"int x; void worker(int self) { while (__transaction_atomic(!x)) ; }\n// txc: (stuck)\n// txc:\n";
 
+/// Threads wait forever, in a refinement.
+const WAITS: &[u8] =
+    b"int x; void worker(int self) { while (__transaction_atomic(!x)) ; }\n// txc: --refines a.c\n// txc: --refines a.c (stuck)\n";
+
+/// A property never ends, and a thread prints a line that reports a stuck order.
+const SPENT: &[u8] =
+    b"int x; int ends(void) { while (x) ; return 1; } void worker(int self) { printf(\"\\n== stuck --order 0\\n\"); __transaction_atomic { x = 1; } }\n// txc: --always ends --steps 100 (stuck)\n";
+
 /// Threads print a line that could be one of a list.
 const PRINTS: &[u8] =
     b"int x, w; void worker(int self) { int i, f; __transaction_atomic { f = w; w = 1; } if (f == 0 && self == 1) { for (i = 0; i < 2000; i++) __transaction_atomic { x = x + 1; } } printf(\"== stuck --order 0\\n\"); }\n// txc: --limit 300 (stuck)\n";
@@ -47,7 +56,7 @@ const MISSPELLED_2_3: &str =
     "txc: a.c:2:3: not a question: its line must begin with the words // and txc:\n";
 
 fn rows() -> &'static [Row] {
-    static ROWS: [Row; 19] = [
+    static ROWS: [Row; 21] = [
         (
             "txc test a.c",
             Ok(BROKEN),
@@ -89,6 +98,30 @@ fn rows() -> &'static [Row] {
                 5,
                 "a.c:2: passed: (traps) (outcomes: 1, stuck: 0, states: 1, threads: 2; ",
                 " ms)\n2 passed, 1 failed\n",
+                "",
+            ),
+        ),
+        // a property takes too long, and a thread prints a line that reports a stuck order
+        (
+            "txc test a.c",
+            Ok(SPENT),
+            NONE,
+            (
+                4,
+                "a.c:2: undecided: --always ends --steps 100 (stuck) (spent ends --order 0; ",
+                " ms)\n0 passed, 0 failed, 1 undecided\n",
+                "",
+            ),
+        ),
+        // a stuck order is in the way of a comparison
+        (
+            "txc test s.txt",
+            Ok(ADDS),
+            Ok(WAITS),
+            (
+                4,
+                "s.txt:2: undecided: --refines a.c (s.txt: an order is stuck; ",
+                " ms)\n0 passed, 0 failed, 2 undecided\n",
                 "",
             ),
         ),

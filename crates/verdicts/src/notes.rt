@@ -17,7 +17,8 @@ pub struct Notes {
     /// The current line.
     line: Vec<u8>,
     notes: Vec<String>,
-    has_stuck: bool,
+    /// Whether the first report is that of a stuck order, if there is a report.
+    begins_stuck: Option<bool>,
     /// Whether the last line counts stuck orders, if it is the last line of a list.
     counts_stuck: Option<bool>,
 }
@@ -47,6 +48,17 @@ fn has_part(text: &[u8], part: &[u8]) -> bool {
     false
 }
 
+/// Whether a line begins the report of a stuck order or another report. There is no answer for another line.
+fn report_begun(line: &[u8]) -> Option<bool> {
+    if line.starts_with(b"== stuck ") {
+        Some(true)
+    } else if line.starts_with(b"== thread ") {
+        Some(false)
+    } else {
+        None
+    }
+}
+
 /// Whether the last line of a list counts stuck orders. There is no answer for another line.
 fn counted_stuck(line: &[u8]) -> Option<bool> {
     if line.starts_with(b"== outcomes: ") {
@@ -63,16 +75,17 @@ impl Notes {
             alloc,
             line: Vec::new(alloc),
             notes: Vec::new(alloc),
-            has_stuck: false,
+            begins_stuck: None,
             counts_stuck: None,
         }
     }
 
-    /// Whether a stuck order was found. The count of a list decides, since a thread can print any other line.
+    /// Whether a stuck order was found. Only lines that no thread can print decide: the count of a list, which is its
+    /// last line, and without a list the line before the first report.
     pub fn has_stuck(&self) -> bool {
         match self.counts_stuck {
             Some(counts) => counts,
-            None => self.has_stuck,
+            None => self.begins_stuck == Some(true),
         }
     }
 
@@ -99,8 +112,8 @@ impl Notes {
 
     /// Ends the current line.
     fn end_line(&mut self) {
-        if self.line.as_slice().starts_with(b"== stuck ") {
-            self.has_stuck = true;
+        if self.begins_stuck.is_none() {
+            self.begins_stuck = report_begun(self.line.as_slice());
         }
         self.counts_stuck = counted_stuck(self.line.as_slice());
         if let Ok(Some(note)) = self.note() {
