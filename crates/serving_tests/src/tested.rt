@@ -40,6 +40,10 @@ const STUCK: &[u8] =
 const WAITS: &[u8] =
     b"int x; void worker(int self) { while (__transaction_atomic(!x)) ; }\n// txc: --refines a.c\n// txc: --refines a.c (stuck)\n";
 
+/// A list is compared with another.
+const EXPECTS: &[u8] =
+    b"int x; void worker(int self) { __transaction_atomic { x = x + 1; } }\n// txc: --expect s.txt\n// txc: --expect s.txt (fails)\n";
+
 /// A property never ends, and a thread prints a line that reports a stuck order.
 const SPENT: &[u8] =
     b"int x; int ends(void) { while (x) ; return 1; } void worker(int self) { printf(\"\\n== stuck --order 0\\n\"); __transaction_atomic { x = 1; } }\n// txc: --always ends --steps 100 (stuck)\n";
@@ -56,7 +60,7 @@ const MISSPELLED_2_3: &str =
     "txc: a.c:2:3: not a question: its line must begin with the words // and txc:\n";
 
 fn rows() -> &'static [Row] {
-    static ROWS: [Row; 21] = [
+    static ROWS: [Row; 24] = [
         (
             "txc test a.c",
             Ok(BROKEN),
@@ -110,6 +114,46 @@ fn rows() -> &'static [Row] {
                 4,
                 "a.c:2: undecided: --always ends --steps 100 (stuck) (spent ends --order 0; ",
                 " ms)\n0 passed, 0 failed, 1 undecided\n",
+                "",
+            ),
+        ),
+        // the findings of a comparison with a list
+        (
+            "txc test a.c",
+            Ok(EXPECTS),
+            Ok(
+                b"== outcome --order 0,1\n== thread 0: ended\n== thread 1: ended\n== memory\nx = 3\n",
+            ),
+            (
+                5,
+                "a.c:2: failed: --expect s.txt (line 5 differs; expected: x = 3; found: x = 2; ",
+                " ms)\n1 passed, 1 failed\n",
+                "",
+            ),
+        ),
+        (
+            "txc test a.c",
+            Ok(EXPECTS),
+            Ok(
+                b"== outcome --order 0,1\r\n== thread 0: ended\r\n== thread 1: ended\r\n== memory\r\nx = 2\r\n== outcomes: 1, stuck: 0, states: 4, threads: 2\r\n",
+            ),
+            (
+                5,
+                "a.c:2: failed: --expect s.txt (line 1 differs; expected: == outcome --order 0,1?; found: == outcome --order 0,1; they differ only in carriage returns; ",
+                " ms)\n1 passed, 1 failed\n",
+                "",
+            ),
+        ),
+        (
+            "txc test a.c",
+            Ok(EXPECTS),
+            Ok(
+                b"== outcome --order 0,1\n== thread 0: ended\n== thread 1: ended\n== memory\nx = 2\n== outcomes: 1, stuck: 0, states: 4, threads: 2\n",
+            ),
+            (
+                5,
+                "a.c:2: passed: --expect s.txt (as expected; ",
+                " ms)\n1 passed, 1 failed\n",
                 "",
             ),
         ),

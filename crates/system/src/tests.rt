@@ -203,7 +203,7 @@ fn test_question<H: Threads + Wait + Clock + Sync, F: Files, W: Write>(
         return Ok(Verdict::Refused);
     };
     let answer = answer_question(rt, alloc, &asked, source);
-    let verdict = judge(expected, answer.status, answer.found.has_stuck());
+    let verdict = judge(expected, answer.status, answer.has_stuck);
     let answered = Answered {
         file: source.name,
         line: question.line,
@@ -213,7 +213,7 @@ fn test_question<H: Threads + Wait + Clock + Sync, F: Files, W: Write>(
         status: answer.status,
         verdict,
         milliseconds: milliseconds(rt, since),
-        notes: answer.notes(),
+        notes: answer.notes.notes(),
     };
     report_answer(alloc, &answered, format, out)?;
     Ok(verdict)

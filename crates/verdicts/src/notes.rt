@@ -17,6 +17,8 @@ pub struct Notes {
     /// The current line.
     line: Vec<u8>,
     notes: Vec<String>,
+    /// Whether the first line is one of a comparison with a list, if there is a line.
+    compares: Option<bool>,
     /// Whether the first report is that of a stuck order, if there is a report.
     begins_stuck: Option<bool>,
     /// Whether the last line counts stuck orders, if it is the last line of a list.
@@ -36,6 +38,12 @@ fn note_of(line: &[u8]) -> Option<&[u8]> {
     } else {
         Some(found)
     }
+}
+
+/// Whether a line begins the result of a comparison with a list. All lines of that are findings.
+fn begins_comparison(line: &[u8]) -> bool {
+    line == b"as expected".as_slice()
+        || (line.starts_with(b"line ".as_slice()) && line.ends_with(b" differs".as_slice()))
 }
 
 /// Whether a text has this part.
@@ -75,6 +83,7 @@ impl Notes {
             alloc,
             line: Vec::new(alloc),
             notes: Vec::new(alloc),
+            compares: None,
             begins_stuck: None,
             counts_stuck: None,
         }
@@ -94,6 +103,18 @@ impl Notes {
         self.notes.as_slice()
     }
 
+    /// These notes on standard output, followed by those on standard error if there are none, or if a list is compared.
+    pub fn followed_by(self, told: Notes) -> Notes {
+        let mut all = self;
+        if all.notes.is_empty() || all.compares == Some(true) {
+            let Notes { notes, .. } = told;
+            'notes: for note in notes {
+                all.keep(note);
+            }
+        }
+        all
+    }
+
     /// Keeps a note, if there is memory for it.
     fn keep(&mut self, note: String) {
         if self.notes.len() >= MOST_NOTES {
@@ -102,9 +123,18 @@ impl Notes {
         let _ = self.notes.push(note);
     }
 
+    /// The finding that the current line states, if any.
+    fn found(&self) -> Option<&[u8]> {
+        if self.compares == Some(true) {
+            Some(self.line.as_slice())
+        } else {
+            note_of(self.line.as_slice())
+        }
+    }
+
     /// The note of the current line, if it has one.
     fn note(&self) -> Result<Option<String>, AllocError> {
-        match note_of(self.line.as_slice()) {
+        match self.found() {
             Some(note) => Ok(Some(String::from_utf8_lossy(self.alloc, note)?)),
             None => Ok(None),
         }
@@ -112,6 +142,9 @@ impl Notes {
 
     /// Ends the current line.
     fn end_line(&mut self) {
+        if self.compares.is_none() {
+            self.compares = Some(begins_comparison(self.line.as_slice()));
+        }
         if self.begins_stuck.is_none() {
             self.begins_stuck = report_begun(self.line.as_slice());
         }
