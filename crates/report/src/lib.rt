@@ -2,6 +2,7 @@
 //! with a report; the findings about properties; and the line of each step of a replay.
 #![tactic(auto)]
 
+mod copied;
 mod coverings;
 mod each_once;
 mod outcome_list;
