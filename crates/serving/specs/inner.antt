@@ -12,6 +12,8 @@ pub mod Printing
 pub mod Threads
 -- reports justified by runs of the source
 pub mod Serial
+-- orders in which threads are exchanged
+pub mod Exchanged
 -- the reports of the states of a walk
 pub mod Walked
 -- the comparison of two lists of outcomes

@@ -14,6 +14,7 @@ mod compared;
 mod cover;
 mod ends;
 mod every_number;
+mod exchanged;
 mod expected;
 mod explore;
 mod files;
