@@ -1,7 +1,8 @@
 //! The data of a page as JSON (RFC 8259).
 
 use crate::cells::{put_memory, put_names, types_of};
-use crate::content::{Page, PropertyShown, RestShown, Touched};
+use crate::content::{NO_STATE, Page, PropertyShown, RestShown};
+use containers::Items;
 use json::Writer;
 use lex::token::Scalar;
 use std::alloc::{AllocError, Allocator};
@@ -10,6 +11,16 @@ use std::alloc::{AllocError, Allocator};
 fn put_text<B: Allocator>(to: &mut Writer<B>, key: &str, text: &str) -> Result<(), AllocError> {
     to.key(key)?;
     to.string(text)
+}
+
+/// Adds a member of an object whose value is a number.
+fn put_number<B: Allocator>(
+    to: &mut Writer<B>,
+    key: &str,
+    number: usize,
+) -> Result<(), AllocError> {
+    to.key(key)?;
+    to.u64(number as u64)
 }
 
 /// Adds numbers as a list.
@@ -21,12 +32,29 @@ fn put_numbers<B: Allocator>(to: &mut Writer<B>, numbers: &[u32]) -> Result<(), 
     to.end_array()
 }
 
-/// Adds the lines of a source as a list.
-fn put_source<B: Allocator>(to: &mut Writer<B>, text: &str) -> Result<(), AllocError> {
-    to.key("source")?;
+/// Adds words as a list of numbers.
+fn put_words<B: Allocator>(to: &mut Writer<B>, words: &[u64]) -> Result<(), AllocError> {
     to.begin_array()?;
-    'lines: for line in text.lines() {
-        to.string(line)?;
+    'words: for word in words {
+        to.u64(*word)?;
+    }
+    to.end_array()
+}
+
+/// Adds the state after a turn: `null` if the page lacks it.
+fn put_target<B: Allocator>(to: &mut Writer<B>, target: u32) -> Result<(), AllocError> {
+    if target == NO_STATE {
+        to.null()
+    } else {
+        to.u64(u64::from(target))
+    }
+}
+
+/// Adds the states after turns as a list.
+fn put_targets<B: Allocator>(to: &mut Writer<B>, targets: &[u32]) -> Result<(), AllocError> {
+    to.begin_array()?;
+    'targets: for target in targets {
+        put_target(to, *target)?;
     }
     to.end_array()
 }
@@ -38,10 +66,8 @@ fn put_rest<A: Allocator, B: Allocator>(
 ) -> Result<(), AllocError> {
     let (line, column) = rest.at.unwrap_or((0, 0));
     to.begin_object()?;
-    to.key("line")?;
-    to.u64(line as u64)?;
-    to.key("column")?;
-    to.u64(column as u64)?;
+    put_number(to, "line", line)?;
+    put_number(to, "column", column)?;
     put_text(to, "words", rest.words.as_str())?;
     put_text(to, "end", rest.end.as_str())?;
     put_text(to, "printed", rest.printed.as_str())?;
@@ -53,7 +79,6 @@ fn put_rests<A: Allocator, B: Allocator>(
     to: &mut Writer<B>,
     rests: &[RestShown<A>],
 ) -> Result<(), AllocError> {
-    to.key("rests")?;
     to.begin_array()?;
     'rests: for rest in rests {
         put_rest(to, rest)?;
@@ -61,26 +86,41 @@ fn put_rests<A: Allocator, B: Allocator>(
     to.end_array()
 }
 
+/// Adds the cells that a turn reads, and those that it writes.
+fn put_touch<A: Allocator, B: Allocator>(
+    to: &mut Writer<B>,
+    touched: &(Items<u32, A>, Items<u32, A>),
+) -> Result<(), AllocError> {
+    to.begin_array()?;
+    put_numbers(to, touched.0.as_slice())?;
+    put_numbers(to, touched.1.as_slice())?;
+    to.end_array()
+}
+
 /// Adds the cells that turns read and write as a list.
 fn put_touched<A: Allocator, B: Allocator>(
     to: &mut Writer<B>,
-    touched: &[Touched<A>],
+    touched: &[(Items<u32, A>, Items<u32, A>)],
 ) -> Result<(), AllocError> {
-    to.key("touched")?;
     to.begin_array()?;
     'touched: for one in touched {
-        to.begin_array()?;
-        put_numbers(to, one.reads.as_slice())?;
-        put_numbers(to, one.writes.as_slice())?;
-        to.end_array()?;
+        put_touch(to, one)?;
     }
     to.end_array()
 }
 
-/// So many entries of a list, from the entry after as many for each of the earlier states.
-fn entries_of<T>(list: &[T], count: usize, state: usize) -> &[T] {
-    let from = state.saturating_mul(count);
-    list.get(from..from.saturating_add(count)).unwrap_or(&[])
+/// This many words of a list, after as many for each of the earlier states; fewer at the list's end.
+fn words_of(list: &[u64], count: usize, state: usize) -> &[u64] {
+    let from = state.saturating_mul(count).min(list.len());
+    let to = from.saturating_add(count).min(list.len());
+    &list[from..to]
+}
+
+/// Likewise, of a list of numbers.
+fn numbers_of(list: &[u32], count: usize, state: usize) -> &[u32] {
+    let from = state.saturating_mul(count).min(list.len());
+    let to = from.saturating_add(count).min(list.len());
+    &list[from..to]
 }
 
 /// Adds a state: the memory, the rests of its threads, and the turns.
@@ -92,15 +132,13 @@ fn put_state<A: Allocator, B: Allocator>(
 ) -> Result<(), AllocError> {
     let threads = page.threads as usize;
     let states = page.states;
+    let row = words_of(states.rows, page.cells.saturating_add(threads), state);
+    let (memory, rests) = row.split_at(page.cells.min(row.len()));
     to.begin_array()?;
-    put_memory(
-        to,
-        types,
-        entries_of(states.words.as_slice(), types.len(), state),
-    )?;
-    put_numbers(to, entries_of(states.rests.as_slice(), threads, state))?;
-    put_numbers(to, entries_of(states.next.as_slice(), threads, state))?;
-    put_numbers(to, entries_of(states.touched.as_slice(), threads, state))?;
+    put_memory(to, types, memory)?;
+    put_words(to, rests)?;
+    put_targets(to, numbers_of(states.targets, threads, state))?;
+    put_numbers(to, numbers_of(states.turns, threads, state))?;
     to.end_array()
 }
 
@@ -114,9 +152,8 @@ fn put_states<A: Allocator, B: Allocator>(
     let count = if threads == 0 {
         0
     } else {
-        page.states.rests.len() / threads
+        page.states.targets.len() / threads
     };
-    to.key("states")?;
     to.begin_array()?;
     'states: for state in 0..count {
         put_state(to, page, types, state)?;
@@ -124,20 +161,68 @@ fn put_states<A: Allocator, B: Allocator>(
     to.end_array()
 }
 
+/// Adds a property.
+fn put_property<A: Allocator, B: Allocator>(
+    to: &mut Writer<B>,
+    property: &PropertyShown<A>,
+) -> Result<(), AllocError> {
+    to.begin_object()?;
+    put_text(to, "name", property.name.as_str())?;
+    put_text(to, "values", property.values.as_str())?;
+    to.end_object()
+}
+
 /// Adds properties as a list.
 fn put_properties<A: Allocator, B: Allocator>(
     to: &mut Writer<B>,
     properties: &[PropertyShown<A>],
 ) -> Result<(), AllocError> {
-    to.key("properties")?;
     to.begin_array()?;
     'properties: for property in properties {
-        to.begin_object()?;
-        put_text(to, "name", property.name.as_str())?;
-        put_text(to, "values", property.values.as_str())?;
-        to.end_object()?;
+        put_property(to, property)?;
     }
     to.end_array()
+}
+
+/// Adds the members of a page that do not depend on its states.
+fn put_head<A: Allocator, B: Allocator>(
+    to: &mut Writer<B>,
+    page: &Page<'_, A>,
+) -> Result<(), AllocError> {
+    put_text(to, "file", page.file)?;
+    put_text(to, "options", page.options)?;
+    put_text(to, "source", page.text)?;
+    put_number(to, "threads", page.threads as usize)?;
+    to.key("order")?;
+    put_numbers(to, page.order)
+}
+
+/// Adds the cells and states of a page.
+fn put_body<A: Allocator + Copy, B: Allocator>(
+    alloc: A,
+    to: &mut Writer<B>,
+    page: &Page<'_, A>,
+) -> Result<(), AllocError> {
+    let types = types_of(alloc, page.globals, page.cells)?;
+    to.key("cells")?;
+    put_names(alloc, to, page.globals, page.cells)?;
+    to.key("are_all")?;
+    to.boolean(page.states.are_all)?;
+    to.key("states")?;
+    put_states(to, page, types.as_slice())
+}
+
+/// Adds what the states of a page refer to.
+fn put_tables<A: Allocator, B: Allocator>(
+    to: &mut Writer<B>,
+    page: &Page<'_, A>,
+) -> Result<(), AllocError> {
+    to.key("rests")?;
+    put_rests(to, page.rests)?;
+    to.key("touched")?;
+    put_touched(to, page.touched)?;
+    to.key("properties")?;
+    put_properties(to, page.properties)
 }
 
 /// Adds the data of a page as an object.
@@ -146,20 +231,10 @@ fn put_data<A: Allocator + Copy, B: Allocator>(
     to: &mut Writer<B>,
     page: &Page<'_, A>,
 ) -> Result<(), AllocError> {
-    let types = types_of(alloc, page.globals)?;
     to.begin_object()?;
-    put_text(to, "file", page.file)?;
-    to.key("threads")?;
-    to.u64(u64::from(page.threads))?;
-    to.key("order")?;
-    put_numbers(to, page.order)?;
-    put_source(to, page.text)?;
-    to.key("cells")?;
-    put_names(alloc, to, page.globals)?;
-    put_rests(to, page.rests)?;
-    put_touched(to, page.touched)?;
-    put_states(to, page, types.as_slice())?;
-    put_properties(to, page.properties)?;
+    put_head(to, page)?;
+    put_body(alloc, to, page)?;
+    put_tables(to, page)?;
     to.end_object()
 }
 
