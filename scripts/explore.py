@@ -6,9 +6,11 @@
 
 Node runs the script of each page: from every state, the turn of every thread. The memory, output and ends after the turn
 must be those of `txc source` in a shortest order to the state and with this turn, and what the turn reads and writes must
-be that of `txc trace`. The number of states, up to exchanges of threads that begin alike, must be that of `txc outcomes`,
-which must list as many outcomes, and a stuck order if and only if the page has a stuck state. Properties must have the
-values that `txc trace --property` reports.
+be that of `txc trace`. `txc outcomes` must list as many outcomes, have no more states, since it merges some, and list a
+stuck order if and only if the page has a stuck state. Properties must have the values that `txc trace --property` reports.
+
+A page of one order must have each of its states, and those one turn from them. The command on a page must have the
+options `-D` of the call.
 
 With --browser, Chromium opens each page of docs/explore/ at its last order, and must show the memory after it.
 """
@@ -25,7 +27,7 @@ from lib.words import TOP, TXC, asked
 PAGES = f"{TOP}/docs/explore"
 # Each page of the documents, and what writes it: README and TUTORIAL say so too.
 SHOWN = {
-    "seats.html": "examples/seats.c --threads 2 --order 1,0,0,1",
+    "seats.html": "examples/seats.c --threads 2 --order 0,1,1,0",
     "lock_broken.html": "examples/properties/lock_broken.c --threads 2 --always alone",
     "philosophers_broken.html": "examples/properties/philosophers_broken.c --threads 3 --always neighbours_wait",
 }
@@ -34,24 +36,27 @@ COMPARED = [
     "examples/booking.c --threads 2",
     "examples/receipt.c --threads 3",
     "examples/withdraw.c --threads 2",
+    "examples/counter.c --threads 8 --order 0,1,2,3,4,5,6,7,7",
 ]
+# A program with a bound that the command line defines.
+BOUND = "int x;\nvoid worker(int self) {\n    for (int i = 0; i < N; i++) { __transaction_atomic { x = x + 1; } }\n}\n"
 NODE = r"""
 const html = require("fs").readFileSync(process.argv[1], "utf8");
 const data = JSON.parse(/<script type="application\/json" id="data">(.*?)<\/script>/s.exec(html)[1]);
 const model = new Function(/<script id="model">(.*?)<\/script>/s.exec(html)[1] + "\nreturn modelOf;")()(data);
-const search = model.search(0), turns = [];
+const search = model.search(0), turns = [], lacks = [];
 for (const state of search.found)
   for (const thread of model.all) {
+    if (model.next(state, thread) === null) { lacks.push(state); continue; }
     const order = [...model.orderTo(search.led, state), thread], path = model.path(order), last = path[order.length];
     turns.push({ order, ran: model.runs(state, thread), effects: model.effects(state, thread), memory: model.memory(last),
       threads: model.all.map(other => [model.rest(last, other).end || "waits", model.rest(last, other).printed]),
       values: data.properties.map(property => [property.name, property.values[last]]) });
   }
-const places = row => [...new Set(data.states[0][1])].map(
-  place => model.all.filter(thread => data.states[0][1][thread] === place).map(thread => row[thread]).sort());
-const apart = new Set(search.found.map(state => JSON.stringify([data.states[state][0], places(data.states[state][1])])));
-console.log(JSON.stringify({ cells: data.cells, states: apart.size, outcomes: model.outcomes.size,
-  stuck: model.can.includes(false), turns }));
+const passed = model.path(data.order);
+console.log(JSON.stringify({ cells: data.cells, states: search.found.length, outcomes: model.outcomes.size,
+  are_all: data.are_all, options: data.options, passes: passed.length === data.order.length + 1,
+  expands: !passed.some(state => lacks.includes(state)), stuck: model.can.includes(false), turns }));
 """
 LAST = re.compile(r"^== outcomes: (\d+), stuck: (\d+), states: (\d+)", re.M)
 ROW = re.compile(r'<tr(?: class="changed")?><td>(.*?)</td><td>(-?\d+)')
@@ -69,6 +74,13 @@ def page_of(txc, words):
     if not page.endswith("</html>\n"):
         sys.exit(f"txc explore {words}: no page")
     return page
+
+
+def run_of(words):
+    """The file, the number of threads and the definitions of a command line."""
+    parts = words.split()
+    defined = [at for at, word in enumerate(parts) if word == "-D"]
+    return parts[:3] + [word for at in defined for word in parts[at:at + 2]]
 
 
 def report_of(cells, turn):
@@ -102,10 +114,15 @@ def compare(txc, words):
         file.flush()
         done = subprocess.run(["node", "-e", NODE, file.name], capture_output=True, text=True, check=True)
     found = json.loads(done.stdout)
-    run = words.split()[:3]
-    outcomes, stuck, states = LAST.search(out_of(txc, "outcomes", *run)).groups()
-    if (found["states"], found["outcomes"], found["stuck"]) != (int(states), int(outcomes), stuck != "0"):
-        sys.exit(f"{words}: {found['states']} states, {found['outcomes']} outcomes, stuck {found['stuck']}")
+    run = run_of(words)
+    if found["options"] != " ".join(run[3:]):
+        sys.exit(f"{words}: the page has the options {found['options']}")
+    if found["are_all"]:
+        outcomes, stuck, states = LAST.search(out_of(txc, "outcomes", *run)).groups()
+        if (found["outcomes"], found["stuck"]) != (int(outcomes), stuck != "0") or found["states"] < int(states):
+            sys.exit(f"{words}: {found['states']} states, {found['outcomes']} outcomes, stuck {found['stuck']}")
+    elif not (found["passes"] and found["expands"]):
+        sys.exit(f"{words}: the page lacks a state of its order, or one a turn from it")
     for turn in found["turns"]:
         order = ",".join(map(str, turn["order"]))
         report = out_of(txc, "source", *run, "--order", order)
@@ -126,7 +143,7 @@ def compare(txc, words):
 
 def browse(browser, txc, name, words):
     """Compares the memory that the browser shows with that of the source."""
-    run, order = words.split()[:3], "0,1,1"
+    run, order = run_of(words), "0,1,1"
     flags = ["--headless", "--no-sandbox", "--disable-gpu", "--virtual-time-budget=5000", "--dump-dom"]
     address = f"file://{PAGES}/{name}#order={order}"
     done = subprocess.run([browser, *flags, address], capture_output=True, text=True, check=True)
@@ -158,6 +175,10 @@ def main():
         return 0
     for words in COMPARED:
         compare(given.txc, words)
+    with tempfile.NamedTemporaryFile("w", suffix=".c", encoding="utf-8") as file:
+        file.write(BOUND)
+        file.flush()
+        compare(given.txc, f"{file.name} --threads 2 -D N=2")
     if given.browser:
         for name, words in SHOWN.items():
             browse(given.browser, given.txc, name, words)

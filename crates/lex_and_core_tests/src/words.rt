@@ -778,7 +778,7 @@ fn questions() -> &'static [Row] {
     &ROWS
 }
 
-/// Properties for every number of threads.
+/// Functions that are asked for every number of threads.
 fn coverages() -> &'static [Row] {
     static ROWS: [Row; 9] = [
         (

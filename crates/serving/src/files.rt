@@ -21,6 +21,7 @@ use bytecode::Code;
 use command::{Request, Steps, Task};
 use lex::MOST_BYTES;
 use meaning::MeaningFault;
+use parameters::Definition;
 use replay::{Line, ScheduleFault, TurnsFault, read_schedule, seeded, turns};
 use std::alloc::{Allocator, Global};
 use std::io;
@@ -41,6 +42,11 @@ pub trait Files {
     /// Opens the file of a name.
     fn open(&self, name: &str) -> io::Result<Self::File>
         ensures { IfOk result (λ file. Self.File.remaining file ≡ contents self.now name.now) };
+
+    /// The numbers that replace names of the source.
+    fn definitions(&self) -> &[Definition] {
+        &[]
+    }
 }
 
 /// Opens the files that a request names, answers the request over them and two writers, and returns the exit status, as
@@ -71,7 +77,10 @@ pub fn serve_files<
             task,
         } => {
             let file = file.as_str();
-            let detail = Detail::of(file, *verbose, *format, err.is_terminal());
+            let is_terminal = err.is_terminal();
+            let detail = Detail::of(file, *verbose, *format, is_terminal).defining(
+                files.definitions(),
+            );
             match task {
                 Task::Outcomes { time, .. } => {
                     let mut timed = Timed::new(err, rt, *time);

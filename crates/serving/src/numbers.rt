@@ -109,6 +109,7 @@ impl<R: Read> Read for Opened<'_, R> {
 #[derive(Drop)]
 pub(crate) struct Numbered<'a, F> {
     files: &'a F,
+    definitions: &'a [Definition],
     file: &'a str,
     bytes: &'a [u8],
     other: &'a str,
@@ -131,6 +132,10 @@ impl<'a, F: Files> Files for Numbered<'a, F> {
             Ok(file) => Ok(Opened::Other(file)),
             Err(error) => Err(error),
         }
+    }
+
+    fn definitions(&self) -> &[Definition] {
+        self.definitions
     }
 }
 
@@ -284,6 +289,7 @@ fn serve_read<H: Threads + Wait + Clock + Sync, F: Files, W: Write, E: Write + I
         Ok((bytes, other)) => {
             let numbered = Numbered {
                 files,
+                definitions,
                 file: sources.file,
                 bytes: bytes.as_slice(),
                 other: sources.other,

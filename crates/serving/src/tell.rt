@@ -7,13 +7,14 @@ ghost use Rattle.serving.specs.Usage.{IsHelp, IsWrong};
 
 use crate::print::{ENDED, REFUSED, STOPPED, UNUSABLE, print};
 use crate::program::SourceFault;
+use crate::results::begin_annotation;
 use crate::run::thread_numbered;
-use annotations::begin_annotation;
 use command::{Format, UsageFault};
 use lex::place;
 use lex::token::Span;
 use meaning::MeaningFault;
 use messages::{Fault, hints, json_line, short_line, underline, words, write_quoted, write_shown};
+use parameters::Definition;
 use replay::ScheduleFault;
 use std::alloc::Allocator;
 use std::io;
@@ -37,6 +38,8 @@ pub struct Detail<'a> {
     pub(crate) further: bool,
     /// Whether traces of a search's first findings are shown.
     pub(crate) traces: bool,
+    /// The numbers that replace names of the source.
+    pub(crate) definitions: &'a [Definition],
 }
 
 impl<'a> Detail<'a> {
@@ -63,7 +66,14 @@ impl<'a> Detail<'a> {
                 Format::Plain => is_terminal,
                 Format::Short | Format::Json | Format::Github => false,
             },
+            definitions: &[],
         }
+    }
+
+    /// The same for a source in which these numbers replace names.
+    pub(crate) fn defining(mut self, definitions: &'a [Definition]) -> Detail<'a> {
+        self.definitions = definitions;
+        self
     }
 
     /// How faults of another file's program are reported.
@@ -76,6 +86,7 @@ impl<'a> Detail<'a> {
             further: self.further,
             progress: self.progress,
             traces: self.traces,
+            definitions: &[],
         }
     }
 }
@@ -151,7 +162,7 @@ impl<E: Write> Teller<'_, E> {
             let _ = self.err.write_all(line.as_slice());
         } else if self.detail.format == Format::Github {
             let (line, column) = place(text, span.start.min(text.len()));
-            let _ = begin_annotation("error", self.detail.file, self.err);
+            begin_annotation("error", self);
             let _ = writeln!(
                 self.err,
                 ",line={line},col={column},title=fault {number:02}::{}",

@@ -190,11 +190,21 @@ pub(crate) fn keep_files<F: Files, E: Write>(
             format,
             task,
         } => {
-            let source = NamedFile::source(file.as_str(), *verbose, *format);
-            keep(alloc, &source, files, &mut kept, err)?;
+            keep(
+                alloc,
+                &NamedFile::source(file.as_str(), *verbose, *format),
+                files,
+                &mut kept,
+                err,
+            )?;
             if let Some(name) = schedule_of(task) {
-                let schedule = NamedFile::whole(name, *verbose, *format);
-                keep(alloc, &schedule, files, &mut kept, err)?;
+                keep(
+                    alloc,
+                    &NamedFile::whole(name, *verbose, *format),
+                    files,
+                    &mut kept,
+                    err,
+                )?;
             }
         }
         Request::Certify {
@@ -203,12 +213,27 @@ pub(crate) fn keep_files<F: Files, E: Write>(
             format,
             claim,
         } => {
-            let source = NamedFile::source(file.as_str(), *verbose, *format);
-            keep(alloc, &source, files, &mut kept, err)?;
-            let order = NamedFile::whole(claim.order.as_str(), *verbose, *format);
-            keep(alloc, &order, files, &mut kept, err)?;
-            let report = NamedFile::whole(claim.report.as_str(), *verbose, *format);
-            keep(alloc, &report, files, &mut kept, err)?;
+            keep(
+                alloc,
+                &NamedFile::source(file.as_str(), *verbose, *format),
+                files,
+                &mut kept,
+                err,
+            )?;
+            keep(
+                alloc,
+                &NamedFile::whole(claim.order.as_str(), *verbose, *format),
+                files,
+                &mut kept,
+                err,
+            )?;
+            keep(
+                alloc,
+                &NamedFile::whole(claim.report.as_str(), *verbose, *format),
+                files,
+                &mut kept,
+                err,
+            )?;
         }
         Request::Compare {
             file,
@@ -216,10 +241,20 @@ pub(crate) fn keep_files<F: Files, E: Write>(
             format,
             comparison,
         } => {
-            let source = NamedFile::source(file.as_str(), *verbose, *format);
-            keep(alloc, &source, files, &mut kept, err)?;
-            let other = NamedFile::against(&comparison.against, *verbose, *format);
-            keep(alloc, &other, files, &mut kept, err)?;
+            keep(
+                alloc,
+                &NamedFile::source(file.as_str(), *verbose, *format),
+                files,
+                &mut kept,
+                err,
+            )?;
+            keep(
+                alloc,
+                &NamedFile::against(&comparison.against, *verbose, *format),
+                files,
+                &mut kept,
+                err,
+            )?;
         }
         Request::Ask {
             file,
@@ -233,8 +268,13 @@ pub(crate) fn keep_files<F: Files, E: Write>(
             format,
             ..
         } => {
-            let source = NamedFile::source(file.as_str(), *verbose, *format);
-            keep(alloc, &source, files, &mut kept, err)?;
+            keep(
+                alloc,
+                &NamedFile::source(file.as_str(), *verbose, *format),
+                files,
+                &mut kept,
+                err,
+            )?;
         }
         Request::Explain { .. } | Request::ExplainEnd { .. } => {}
     }

@@ -86,19 +86,30 @@ fn put_passage<A: Allocator + Copy>(
     Ok(())
 }
 
-/// Adds a cell as an object, with these values of it, each with its key.
-fn put_values<A: Allocator + Copy>(
+/// Adds a read as an object.
+fn put_read<A: Allocator + Copy>(
     alloc: A,
     to: &mut Writer<A>,
     names: &[Named<A>],
-    cell: usize,
-    values: &[(&str, u64)],
+    mark: Mark,
 ) -> Result<(), AllocError> {
     to.begin_object()?;
-    put_cell(alloc, to, names, cell)?;
-    'values: for (key, word) in values {
-        put_value(alloc, to, *key, names, cell, *word)?;
-    }
+    put_cell(alloc, to, names, mark.cell)?;
+    put_value(alloc, to, "value", names, mark.cell, mark.found)?;
+    to.end_object()
+}
+
+/// Adds a write as an object.
+fn put_write<A: Allocator + Copy>(
+    alloc: A,
+    to: &mut Writer<A>,
+    names: &[Named<A>],
+    mark: Mark,
+) -> Result<(), AllocError> {
+    to.begin_object()?;
+    put_cell(alloc, to, names, mark.cell)?;
+    put_value(alloc, to, "before", names, mark.cell, mark.found)?;
+    put_value(alloc, to, "after", names, mark.cell, mark.left)?;
     to.end_object()
 }
 
@@ -113,7 +124,7 @@ fn put_marks<A: Allocator + Copy>(
     to.begin_array()?;
     'reads: for mark in marks {
         if !mark.is_written {
-            put_values(alloc, to, names, mark.cell, &[("value", mark.found)])?;
+            put_read(alloc, to, names, *mark)?;
         }
     }
     to.end_array()?;
@@ -121,8 +132,7 @@ fn put_marks<A: Allocator + Copy>(
     to.begin_array()?;
     'writes: for mark in marks {
         if mark.is_written {
-            let values = [("before", mark.found), ("after", mark.left)];
-            put_values(alloc, to, names, mark.cell, &values)?;
+            put_write(alloc, to, names, *mark)?;
         }
     }
     to.end_array()
@@ -265,8 +275,11 @@ pub(crate) fn push_asked_object<A: Allocator + Copy>(
     object.begin_array()?;
     'cells: for cell in 0..memory.len() {
         if is_read(cells, cell) {
-            let values = [("value", word_at(memory, cell))];
-            put_values(alloc, &mut object, names, cell, &values)?;
+            object.begin_object()?;
+            put_cell(alloc, &mut object, names, cell)?;
+            let word = word_at(memory, cell);
+            put_value(alloc, &mut object, "value", names, cell, word)?;
+            object.end_object()?;
         }
     }
     object.end_array()?;
