@@ -25,8 +25,8 @@ pub(crate) fn tell_list<A: Allocator, E: Write>(
     let (outcomes, stuck) = (found.outcomes.as_slice(), found.stuck.as_slice());
     match teller.detail.format {
         Format::Json => {
-            put_orders("outcome", outcomes, teller.err);
-            put_orders("stuck", stuck, teller.err);
+            put_orders("outcome", outcomes, &mut teller.err);
+            put_orders("stuck", stuck, &mut teller.err);
             let _ = write!(
                 teller.err,
                 "{{\"result\":\"verdict\",\"status\":{status},\"threads\":{threads},\"outcomes\":{},\"stuck\":{},\"states\":{},\"stopped\":",
@@ -34,7 +34,7 @@ pub(crate) fn tell_list<A: Allocator, E: Write>(
                 stuck.len(),
                 found.states
             );
-            put_stop(found.end, false, teller.err);
+            put_stop(found.end, false, &mut teller.err);
         }
         Format::Github => {
             annotate_stuck(stuck, teller);
@@ -56,15 +56,15 @@ pub(crate) fn tell_answers<A: Allocator, E: Write>(
     match teller.detail.format {
         Format::Json => {
             'properties: for one in found.properties.as_slice() {
-                put_property(one, teller.err);
+                put_property(one, &mut teller.err);
             }
-            put_orders("stuck", stuck, teller.err);
+            put_orders("stuck", stuck, &mut teller.err);
             let _ = write!(
                 teller.err,
                 "{{\"result\":\"verdict\",\"status\":{status},\"threads\":{threads},\"stuck\":{},\"stopped\":",
                 stuck.len()
             );
-            put_stop(found.end, found.is_answered, teller.err);
+            put_stop(found.end, found.is_answered, &mut teller.err);
         }
         Format::Github => {
             'annotated: for one in found.properties.as_slice() {
@@ -197,14 +197,14 @@ fn annotate<A: Allocator, E: Write>(
         Finding::Fails(order) => ("error", "fails", Some(order)),
         Finding::Spent(order) => ("error", "takes too long", Some(order)),
     };
-    begin_annotation(kind, teller);
+    begin_annotation(kind, teller.detail.file, &mut teller.err);
     if let Some(start) = start_of(unit, name) {
         let (line, column) = place(text, start.min(text.len()));
         let _ = write!(teller.err, ",line={line},col={column}");
     }
     let _ = write!(teller.err, ",title={name}::{name} {words}");
     if let Some(order) = order {
-        put_order(order.order.as_slice(), teller.err);
+        put_order(order.order.as_slice(), &mut teller.err);
     }
     let _ = teller.err.write_all(b"\n");
 }
@@ -212,11 +212,11 @@ fn annotate<A: Allocator, E: Write>(
 /// Annotates the source with each stuck order.
 fn annotate_stuck<A: Allocator, E: Write>(stuck: &[ReportedOrder<A>], teller: &mut Teller<'_, E>) {
     'stuck: for one in stuck {
-        begin_annotation("error", teller);
+        begin_annotation("error", teller.detail.file, &mut teller.err);
         let _ = teller
             .err
             .write_all(b",title=stuck::no continuation lets all threads end");
-        put_order(one.order.as_slice(), teller.err);
+        put_order(one.order.as_slice(), &mut teller.err);
         let _ = teller.err.write_all(b"\n");
     }
 }
@@ -230,15 +230,14 @@ fn put_order<E: Write>(order: &[u32], err: &mut E) {
     push_numbers(order, err);
 }
 
-/// Begins an annotation of the source's file.
-pub(crate) fn begin_annotation<E: Write>(kind: &str, teller: &mut Teller<'_, E>) {
-    let _ = write!(teller.err, "::{kind} file=");
-    let file = teller.detail.file;
+/// Begins an annotation of a file.
+pub(crate) fn begin_annotation<E: Write>(kind: &str, file: &str, err: &mut E) {
+    let _ = write!(err, "::{kind} file=");
     'characters: for c in file.chars() {
         if c.is_control() || c == '%' || c == ',' || c == ':' {
-            let _ = write!(teller.err, "%{:02X}", u32::from(c));
+            let _ = write!(err, "%{:02X}", u32::from(c));
         } else {
-            let _ = write!(teller.err, "{c}");
+            let _ = write!(err, "{c}");
         }
     }
 }

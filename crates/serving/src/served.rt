@@ -8,6 +8,7 @@ use crate::ask::ask;
 use crate::certify::certify;
 use crate::compared::compare;
 use crate::cover::cover;
+use crate::lossy::Lossy;
 use crate::request::{explain, explain_end, serve_program};
 use crate::tell::{Detail, Teller};
 use command::Request;
@@ -68,7 +69,7 @@ pub fn serve<
             task,
         } => {
             let detail = Detail::of(file.as_str(), *verbose, *format, is_terminal);
-            let mut teller = Teller::new(err, detail);
+            let mut teller = Teller::new(Lossy::new(err), detail);
             serve_program(rt, alloc, task, source, schedule, out, &mut teller)
         }
         Request::Certify {
@@ -78,7 +79,7 @@ pub fn serve<
             claim,
         } => {
             let detail = Detail::of(file.as_str(), *verbose, *format, is_terminal);
-            let mut teller = Teller::new(err, detail);
+            let mut teller = Teller::new(Lossy::new(err), detail);
             certify(alloc, claim, source, schedule, report, out, &mut teller)
         }
         Request::Compare {
@@ -88,7 +89,7 @@ pub fn serve<
             comparison,
         } => {
             let detail = Detail::of(file.as_str(), *verbose, *format, is_terminal);
-            let mut teller = Teller::new(err, detail);
+            let mut teller = Teller::new(Lossy::new(err), detail);
             compare(alloc, comparison, source, report, out, &mut teller)
         }
         Request::Ask {
@@ -98,7 +99,7 @@ pub fn serve<
             questions,
         } => {
             let detail = Detail::of(file.as_str(), *verbose, *format, is_terminal);
-            let mut teller = Teller::new(err, detail);
+            let mut teller = Teller::new(Lossy::new(err), detail);
             ask(alloc, questions, source, out, &mut teller)
         }
         Request::Cover {
@@ -108,7 +109,7 @@ pub fn serve<
             coverage,
         } => {
             let detail = Detail::of(file.as_str(), *verbose, *format, is_terminal);
-            let mut teller = Teller::new(err, detail);
+            let mut teller = Teller::new(Lossy::new(err), detail);
             cover(alloc, coverage, source, out, &mut teller)
         }
         Request::Explain { number } => explain(*number, out, err),

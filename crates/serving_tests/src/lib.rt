@@ -12,6 +12,8 @@ mod compared;
 #[cfg(test)]
 mod explored;
 #[cfg(test)]
+mod failing;
+#[cfg(test)]
 mod fixed;
 #[cfg(test)]
 mod further;
