@@ -47,7 +47,7 @@ PROMISES = (
     ),
     ("`txc outcomes --always`, `--final`", "AnswersQuestions"),
     ("`txc outcomes --threads any`", "AnswersCoverage"),
-    ("`txc outcomes --refines`, `--expect`", "ComparesOutcomes"),
+    ("`txc outcomes --refines`, `--expect`, `--admits`", "ComparesOutcomes"),
     ("`txc certify`", "CertifiesReport"),
     ("`txc replay`, by the source alone", "PrintsReport RunsInSomeOrder behind_events"),
     ("`txc replay`, all", "PrintsReport RunsInSomeOrder behind_events Replays"),

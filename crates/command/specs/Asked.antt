@@ -9,7 +9,7 @@ use Rattle.clap.specs.Words.{IsAmong, Row, Text, all_of, fault_of, first_of, one
 use Rattle.clap.specs.declared.error.kind.ErrorKind.{ErrorKind}
 use Rattle.clap.specs.declared.error.kind.ErrorKind.TheVariants.{DisplayHelp, DisplayVersion}
 use Rattle.command.specs.declared.request.Against.{Against}
-use Rattle.command.specs.declared.request.Against.TheVariants.{Refined, Expected}
+use Rattle.command.specs.declared.request.Against.TheVariants.{Refined, Expected, Admitted}
 use Rattle.command.specs.declared.request.Claim.{Claim}
 use Rattle.command.specs.declared.request.Comparison.{Comparison}
 use Rattle.command.specs.declared.request.Coverage.{Coverage}
@@ -168,6 +168,7 @@ pub record AreFlagged (given : List Row) (timeline picture print_schedule : Bool
 -- outcomes are compared with nothing
 abbrev pub AreUncompared : List Row → Type 0
 AreUncompared given = (first_of (codes "refines") given ≡ None) × (first_of (codes "expect") given ≡ None)
+    × (first_of (codes "admits") given ≡ None)
 
 -- the first access that is drawn; by default, all is drawn from the beginning
 abbrev pub IsFirstDrawn : List Row → ℕ → Type 0
@@ -260,21 +261,27 @@ pub record IsClaim (given : List Row) (claim : Claim) : Type 0 where
   pub files : AreClaimFiles given (string_bytes claim.order) (string_bytes claim.report)
   pub ticks : IsNumberRead (one_of (codes "ticks") given) claim.ticks
 
--- a file is given for one of two arguments, and none for the other; it and the source are not both standard input
-pub record IsGivenAlone (given : List Row) (id other file : Text) : Type 0 where
+-- a file is given for one of three arguments, and none for the others; it and the source are not both standard input
+pub record IsGivenAlone (given : List Row) (id other another file : Text) : Type 0 where
   pub named : first_of id given ≡ Some file
   pub alone : first_of other given ≡ None
+  pub single : first_of another given ≡ None
   pub not_both : IsNotBoth given file
 
 -- the other side of a comparison of outcomes
 abbrev pub IsAgainst : List Row → Against → Type 0
-IsAgainst given (Refined file) = IsGivenAlone given (codes "refines") (codes "expect") (string_bytes file)
-IsAgainst given (Expected file) = IsGivenAlone given (codes "expect") (codes "refines") (string_bytes file)
+IsAgainst given (Refined file) =
+    IsGivenAlone given (codes "refines") (codes "expect") (codes "admits") (string_bytes file)
+IsAgainst given (Expected file) =
+    IsGivenAlone given (codes "expect") (codes "refines") (codes "admits") (string_bytes file)
+IsAgainst given (Admitted file) =
+    IsGivenAlone given (codes "admits") (codes "refines") (codes "expect") (string_bytes file)
 
--- a list is of one number of threads
+-- a list is of one number of threads, and so is a report
 abbrev pub IsListedFor : Against → (first last : ℕ) → Type 0
 IsListedFor (Refined file) first last = Unit {0}
 IsListedFor (Expected file) first last = last ≡ first
+IsListedFor (Admitted file) first last = last ≡ first
 
 -- how outcomes are compared
 pub record IsComparison (given : List Row) (comparison : Comparison) : Type 0 where

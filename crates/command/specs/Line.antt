@@ -90,7 +90,8 @@ outcome_states_app =
     let threads = with_rule (file_app (codes "outcomes")) (text_rule (codes "threads")) in
     let limits = with_rule (with_rule threads (text_rule (codes "steps"))) (text_rule (codes "limit")) in
     let space = with_rule (with_rule limits (text_rule (codes "memory"))) (text_rule (codes "time")) in
-    with_rule (with_rule space (text_rule (codes "refines"))) (text_rule (codes "expect"))
+    let lists = with_rule (with_rule space (text_rule (codes "refines"))) (text_rule (codes "expect")) in
+    with_rule lists (text_rule (codes "admits"))
 
 abbrev pub outcomes_app : App
 outcomes_app =

@@ -42,7 +42,7 @@ pub(crate) fn coverage(alloc: Global, given: &ArgMatches<'_>) -> Result<Coverage
     ensures ok { IfOk result (IsCoverageAsked (rows_of (found_of given.now))) }
     ensures err { IfErr result (IsOwn ((c : Coverage) → IsCoverageAsked (rows_of (found_of given.now)) c → ⊥)) }
 {
-    let why = "--threads any needs --always, and takes no --final, --refines or --expect";
+    let why = "--threads any needs --always, and takes no --final, --refines, --expect or --admits";
     if compares("outcomes", given) || has_text(given, "final") || !has_text(given, "always") {
         return Err(wrong(alloc, why));
     }

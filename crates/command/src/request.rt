@@ -61,7 +61,8 @@ pub enum Request {
         format: Format,
         claim: Claim,
     },
-    /// Compares the outcomes of the program in a file with those of another program, or with a list of them.
+    /// Compares the outcomes of the program in a file with those of another program, with a list of them, or with a
+    /// report.
     Compare {
         file: String,
         /// Whether more of a fault is reported than its line.
@@ -136,6 +137,8 @@ pub enum Against {
     Refined { file: String },
     /// The list in this file: the outcomes are to be the same. A list is of one number of threads.
     Expected { file: String },
+    /// The report in this file: an outcome is to have it. A report is of one number of threads.
+    Admitted { file: String },
 }
 
 /// The functions that must hold in the states that 1 to 64 threads reach, over at most so many states. In a turn a

@@ -48,6 +48,8 @@ pub mod Certified
 pub mod Refines
 -- lists of expected outcomes
 pub mod Expected
+-- reports of outcomes
+pub mod Admitted
 -- outcomes that are compared
 pub mod Compared
 -- which functions of a program can be properties

@@ -2,7 +2,7 @@
 use Rattle.std.specs.Prelude.{◌≡◌, ◌≢◌, ◌⊎◌, ◌+◌, ℕ, List, [], Option, Some, None, IfSome, IsSomeAnd, Contains, IsUtf8, string_bytes}
 use Rattle.std.specs.Prelude.{take}
 use Rattle.command.specs.declared.request.Against.{Against}
-use Rattle.command.specs.declared.request.Against.TheVariants.{Refined, Expected}
+use Rattle.command.specs.declared.request.Against.TheVariants.{Refined, Expected, Admitted}
 use Rattle.command.specs.declared.request.Asked.{Asked}
 use Rattle.command.specs.declared.request.Request.{Request}
 use Rattle.command.specs.declared.request.Request.TheVariants.{Program, Certify, Compare, Ask, Cover}
@@ -16,6 +16,7 @@ use Rattle.serving.specs.Files.{AnswersFiles, Contents, RefusesSource, WritesFor
 abbrev pub other_of : (file : List ℕ) → Against → List ℕ
 other_of file (Refined other) = string_bytes other
 other_of file (Expected list) = file
+other_of file (Admitted report) = file
 
 -- the names of the sources of a request, twice the same if it has one
 abbrev pub sources_of : Request → Option (List ℕ × List ℕ)

@@ -16,6 +16,8 @@ pub mod Serial
 pub mod Walked
 -- the comparison of two lists of outcomes
 pub mod Compared
+-- outcomes compared with a report
+pub mod Admitted
 -- the facts about functions that are requested as properties
 pub mod Askable
 -- the values of properties in the states of a walk

@@ -2,6 +2,7 @@
 //! exit status.
 #![tactic(auto)]
 
+mod admitted;
 mod all_outcomes;
 mod answered;
 mod ask;

@@ -33,7 +33,7 @@ fn other_of<'a>(file: &'a str, against: &'a Against) -> &'a str
 {
     match against {
         Against::Refined { file } => file.as_str(),
-        Against::Expected { .. } => file,
+        Against::Expected { .. } | Against::Admitted { .. } => file,
     }
 }
 

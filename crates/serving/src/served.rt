@@ -20,7 +20,8 @@ use std::thread::Threads;
 ///
 /// The source's text is read from `source`. A schedule or a listed order is read from `schedule`, once the source has
 /// code or is accepted. A report is read from `report`, once the source has run. The other side of a comparison is also
-/// read from `report`: a list once the outcomes are found, or the source of another program.
+/// read from `report`: a list once the outcomes are found, a report once the source has code, or the source of another
+/// program.
 ///
 /// Output goes to `out`, and faults go to `err`. Text that `err` does not take is lost. The source line or the schedule
 /// line of a fault follows it if `err` is a terminal, or if the words request it. The status is:

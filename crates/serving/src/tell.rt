@@ -212,14 +212,21 @@ impl<E: Write> Teller<'_, E> {
     pub(crate) fn not_text(&mut self, file: &str) -> u8
         ensures { result ≡ 2 }
     {
+        self.unfit(file, "is not UTF-8")
+    }
+
+    /// Reports why the contents of a file cannot be used.
+    pub(crate) fn unfit(&mut self, file: &str, what: &str) -> u8
+        ensures { result ≡ 2 }
+    {
         match self.detail.format {
             Format::Plain => {
                 let _ = self.err.write_all(b"txc: ");
                 let _ = write_shown(file, "", self.err);
-                let _ = writeln!(self.err, " is not UTF-8");
+                let _ = writeln!(self.err, " {what}");
             }
             Format::Short | Format::Json | Format::Github => {
-                self.tell_of_file(file, "is not UTF-8");
+                self.tell_of_file(file, what);
             }
         }
         UNUSABLE

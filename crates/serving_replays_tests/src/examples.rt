@@ -270,6 +270,20 @@ type Transcript = (
 fn first_transcripts() -> &'static [Transcript] {
     static ROWS: [Transcript; 18] = [
         (
+            "txc outcomes examples/audit.c --threads 2 --admits examples/reports/audit.txt",
+            b"// Thread 0 moves 50 in two transactions. Thread 1 adds up both accounts, and can find 50 missing.\nint checking = 120, savings = 40;\n\nvoid worker(int self) {\n    int total;\n    if (self == 0) {\n        __transaction_atomic { checking = checking - 50; }\n        __transaction_atomic { savings = savings + 50; }\n    } else {\n        __transaction_atomic { total = checking + savings; }\n        printf(\"%d\\n\", total);\n    }\n}\n",
+            b"",
+            b"== thread 0: ended\n== thread 1: ended\n110\n== memory\nchecking = 70\nsavings = 90\n",
+            b"== admits examples/reports/audit.txt --threads 2 --order 0,1,0\n",
+        ),
+        (
+            "txc outcomes examples/audit_mended.c --threads 2 --admits examples/reports/audit.txt",
+            b"// Thread 0 moves 50 in one transaction, so thread 1 always finds all of the money.\nint checking = 120, savings = 40;\n\nvoid worker(int self) {\n    int total;\n    if (self == 0) {\n        __transaction_atomic {\n            checking = checking - 50;\n            savings = savings + 50;\n        }\n    } else {\n        __transaction_atomic { total = checking + savings; }\n        printf(\"%d\\n\", total);\n    }\n}\n",
+            b"",
+            b"== thread 0: ended\n== thread 1: ended\n110\n== memory\nchecking = 70\nsavings = 90\n",
+            b"== does not admit examples/reports/audit.txt, nearest outcome --threads 2 --order 0,1\nline 3 differs\noutcome: 160\nreport: 110\n",
+        ),
+        (
             "txc outcomes examples/properties/bank.c --threads any --always kept,covered",
             b"// Three accounts, and threads that move money round: each moves 10 from its own to the next, twice, in one transaction.\nint account[3] = {20, 20, 20};\n\nint kept(void) {\n    int i, sum = 0;\n    for (i = 0; i < 3; i++) sum = sum + account[i];\n    return sum == 60;\n}\n\nint covered(void) { return account[0] >= 0 && account[1] >= 0 && account[2] >= 0; }\n\nvoid worker(int self) {\n    int i, from = self % 3, to = (self + 1) % 3;\n    for (i = 0; i < 2; i++) {\n        __transaction_atomic {\n            if (account[from] >= 10) {\n                account[from] = account[from] - 10;\n                account[to] = account[to] + 10;\n            }\n        }\n    }\n}\n\n// txc: --threads 2..3 --always kept,covered\n",
             b"",
@@ -381,6 +395,12 @@ fn first_transcripts() -> &'static [Transcript] {
             b"",
             b"== not no_seat_twice --order 0,0,1,2,1,2\n== thread 0: ended\n== thread 1: ended\n== thread 2: ended\n== memory\nseats = -1\nsold = 3\ntxc: each property has its answer, so the search stopped; --keep-going continues it\ntxc: with --order 0,0,1,2,1,2\nturn thread at     seats sold\n                       2    0\n   1      0 8:5        2    .   free = seats > 0\n   2      0 10:9      >1   >1   seats = seats - 1; sold = sold + 1  ended\n   3      1 8:5        1    .   free = seats > 0\n   4      2 8:5        1    .   free = seats > 0\n   5      1 10:9      >0   >2   seats = seats - 1; sold = sold + 1  ended\n   6      2 10:9     >-1   >3   seats = seats - 1; sold = sold + 1  ended\nthread 0: ended\nthread 1: ended\nthread 2: ended\nproperty no_seat_twice: fails: seats = -1, sold = 3\n",
         ),
+    ];
+    &ROWS
+}
+
+fn second_transcripts() -> &'static [Transcript] {
+    static ROWS: [Transcript; 18] = [
         (
             "txc outcomes examples/properties/seats_broken.c --threads 2 --always no_seat_twice",
             b"// Two seats, and buyers who check in one transaction and buy in the next: three of them can buy three seats.\nint seats = 2, sold;\n\nint no_seat_twice(void) { return sold + seats == 2 && seats >= 0; }\n\nvoid worker(int self) {\n    int free;\n    __transaction_atomic { free = seats > 0; }\n    if (free) {\n        __transaction_atomic {\n            seats = seats - 1;\n            sold = sold + 1;\n        }\n    }\n}\n\n// txc: --threads 2 --always no_seat_twice\n// txc: --threads 3 --always no_seat_twice (fails)\n",
@@ -395,12 +415,6 @@ fn first_transcripts() -> &'static [Transcript] {
             b"",
             b"== always no_seat_twice: states 9, threads: 2\n== not no_seat_twice --order 0,0,1,2,1,2\n== thread 0: ended\n== thread 1: ended\n== thread 2: ended\n== memory\nseats = -1\nsold = 3\ntxc: each property has its answer, so the search stopped; --keep-going continues it\ntxc: with --order 0,0,1,2,1,2\nturn thread at     seats sold\n                       2    0\n   1      0 8:5        2    .   free = seats > 0\n   2      0 10:9      >1   >1   seats = seats - 1; sold = sold + 1  ended\n   3      1 8:5        1    .   free = seats > 0\n   4      2 8:5        1    .   free = seats > 0\n   5      1 10:9      >0   >2   seats = seats - 1; sold = sold + 1  ended\n   6      2 10:9     >-1   >3   seats = seats - 1; sold = sold + 1  ended\nthread 0: ended\nthread 1: ended\nthread 2: ended\nproperty no_seat_twice: fails: seats = -1, sold = 3\n",
         ),
-    ];
-    &ROWS
-}
-
-fn second_transcripts() -> &'static [Transcript] {
-    static ROWS: [Transcript; 18] = [
         (
             "txc certify examples/hashset.c --threads 2 --order-file examples/orders/hashset.txt --report examples/orders/hashset.out",
             b"// A set of numbers in a table of 16 places, without a lock of its own: each insertion is one step.\nint place[16], count;\n\nint insert(int key) {\n    int at = key * 7 & 15, added = 0;\n    __transaction_atomic {\n        while (place[at] != 0 && place[at] != key) at = at + 1 & 15;\n        if (place[at] == 0) {\n            place[at] = key;\n            count = count + 1;\n            added = 1;\n        }\n    }\n    return added;\n}\n\nvoid worker(int self) {\n    int i, added = 0;\n    for (i = 1; i <= 4; i++) added = added + insert(i * (self + 1));\n    printf(\"%d added\\n\", added);\n}\n",
@@ -513,6 +527,12 @@ fn second_transcripts() -> &'static [Transcript] {
             b"",
             b"fault 20: unknown name\nWhen: a name that is not declared, or not in scope\nPlace: the name\nExample: void worker(int self) { __transaction_atomic { z = 1; } }\nReported at: 1:48\nFix: declare it first: `int z;`\n",
         ),
+    ];
+    &ROWS
+}
+
+fn third_transcripts() -> &'static [Transcript] {
+    static ROWS: [Transcript; 18] = [
         (
             "txc explain budget",
             b"",
@@ -527,12 +547,6 @@ fn second_transcripts() -> &'static [Transcript] {
             b"",
             b"trap 3: an index outside its array\nWhen: an index of a read or write is negative, or not below the array's length\nExample: `int a[5];` and `a[5] = 1;` in a transaction\n",
         ),
-    ];
-    &ROWS
-}
-
-fn third_transcripts() -> &'static [Transcript] {
-    static ROWS: [Transcript; 18] = [
         (
             "txc outcomes examples/mistakes/lost_update.c --threads 2 --final no_deposit_lost",
             b"// Clerks pay money into one account. At the end, the balance should have grown by the sum of all deposits.\n// Mistake: a deposit reads the balance in one transaction and writes it in the next.\nint balance = 100, deposited;\n\nint no_deposit_lost(void) { return balance == 100 + deposited; }\n\nvoid deposit(int amount) {\n    int seen;\n    __transaction_atomic { seen = balance; }\n    __transaction_atomic {\n        balance = seen + amount;\n        deposited = deposited + amount;\n    }\n}\n\nvoid worker(int self) {\n    deposit(10 * (self + 1));\n}\n\n// txc: --threads 2 --final no_deposit_lost (fails)\n",
@@ -645,6 +659,12 @@ fn third_transcripts() -> &'static [Transcript] {
             b"// One seat and two buyers, who check and buy in one transaction: the seat is sold once.\nint seats = 1, sold;\n\nvoid worker(int self) {\n    __transaction_atomic {\n        if (seats > 0) {\n            seats = seats - 1;\n            sold = sold + 1;\n        }\n    }\n}\n",
             b"== not an outcome of examples/seats_mended.c --order 0,1,1,0\n== thread 0: ended\n== thread 1: ended\n== memory\nseats = -1\nsold = 2\n",
         ),
+    ];
+    &ROWS
+}
+
+fn fourth_transcripts() -> &'static [Transcript] {
+    static ROWS: [Transcript; 18] = [
         (
             "txc outcomes examples/seats_mended.c --threads 2 --refines examples/seats.c",
             b"// One seat and two buyers, who check and buy in one transaction: the seat is sold once.\nint seats = 1, sold;\n\nvoid worker(int self) {\n    __transaction_atomic {\n        if (seats > 0) {\n            seats = seats - 1;\n            sold = sold + 1;\n        }\n    }\n}\n",
@@ -659,12 +679,6 @@ fn third_transcripts() -> &'static [Transcript] {
             b"",
             b"== events\n12 0 commit\n19 0 cancel\n28 0 commit\n== thread 0: ended\n== memory\ntrain = 0\nbus = 8\nasked = 2\nby_train = 1\nby_bus = 1\n",
         ),
-    ];
-    &ROWS
-}
-
-fn fourth_transcripts() -> &'static [Transcript] {
-    static ROWS: [Transcript; 18] = [
         (
             "txc replay examples/carts.c --schedule examples/schedules/carts.txt",
             b"// A cart is built as a whole or not at all: if the inner transaction finds too few wheels, one cancel undoes both.\nint frames = 3, wheels = 9, built;\n\nvoid worker(int self) {\n    int i;\n    for (i = 0; i < 3; i++) {\n        __transaction_atomic [[outer]] {\n            frames = frames - 1;\n            __transaction_atomic {\n                wheels = wheels - 4;\n                if (wheels < 0) __transaction_cancel [[outer]];\n            }\n            built = built + 1;\n        }\n    }\n}\n",
@@ -777,6 +791,12 @@ fn fourth_transcripts() -> &'static [Transcript] {
             b"",
             b"== thread 0: ended\n== thread 1: ended\n== memory\nx = 6\n",
         ),
+    ];
+    &ROWS
+}
+
+fn fifth_transcripts() -> &'static [Transcript] {
+    static ROWS: [Transcript; 18] = [
         (
             "txc run examples/counter.c --counts",
             b"// Each thread adds one, three times. No addition is lost, however the threads interleave.\nint x;\n\nvoid worker(int self) {\n    int i;\n    for (i = 0; i < 3; i++) {\n        __transaction_atomic { x = x + 1; }\n    }\n}\n",
@@ -791,12 +811,6 @@ fn fourth_transcripts() -> &'static [Transcript] {
             b"",
             b"== thread 0: trap 1\n== memory\ntotal = 2147483647\nentries = 5\ntxc: thread 0: trap 1 at 7:17: 2147483647 + 1 is out of the range of int\n        total = total + 1;\n                ^^^^^^^^^\n",
         ),
-    ];
-    &ROWS
-}
-
-fn fifth_transcripts() -> &'static [Transcript] {
-    static ROWS: [Transcript; 18] = [
         (
             "txc source examples/booking.c --threads 2 --order 1,0,0,1",
             b"// A cancel undoes the innermost transaction alone: a thread that finds no seat in the train takes one in the bus, and\n// what the outer transaction wrote before is kept. Each thread books twice.\nint train = 1, bus = 9, asked, by_train, by_bus;\n\nvoid worker(int self) {\n    int i;\n    for (i = 0; i < 2; i++) {\n        __transaction_atomic {\n            int seated = 0;\n            asked = asked + 1;\n            __transaction_atomic {\n                train = train - 1;\n                by_train = by_train + 1;\n                if (train < 0) __transaction_cancel;\n                seated = 1;\n            }\n            if (!seated) {\n                bus = bus - 1;\n                by_bus = by_bus + 1;\n            }\n        }\n    }\n}\n",
@@ -909,6 +923,12 @@ fn fifth_transcripts() -> &'static [Transcript] {
             b"",
             b"turn thread at     seats sold\n                       1    0\n   1      0 6:5        1    .   free = seats > 0\n   2      1 6:5        1    .   free = seats > 0\n   3      1 8:9       >0   >1   seats = seats - 1; sold = sold + 1  ended\n   4      0 8:9      >-1   >2   seats = seats - 1; sold = sold + 1  ended\nthread 0: ended\nthread 1: ended\n",
         ),
+    ];
+    &ROWS
+}
+
+fn sixth_transcripts() -> &'static [Transcript] {
+    static ROWS: [Transcript; 2] = [
         (
             "txc trace examples/seats.c --threads 2 --order 0,1 --full",
             b"// One seat and two buyers, who check and buy in two transactions: the seat can be sold twice.\nint seats = 1, sold;\n\nvoid worker(int self) {\n    int free;\n    __transaction_atomic { free = seats > 0; }\n    if (free) {\n        __transaction_atomic {\n            seats = seats - 1;\n            sold = sold + 1;\n        }\n    }\n}\n",
@@ -1008,6 +1028,14 @@ fn fourth_transcripts_show_what_they_should(rt: HostRuntime) {
 fn fifth_transcripts_show_what_they_should(rt: HostRuntime) {
     assert_eq!(rt;
         wrong_transcript(&rt, rt.alloc(), fifth_transcripts()),
+        None
+    );
+}
+
+#[test]
+fn sixth_transcripts_show_what_they_should(rt: HostRuntime) {
+    assert_eq!(rt;
+        wrong_transcript(&rt, rt.alloc(), sixth_transcripts()),
         None
     );
 }

@@ -2,6 +2,8 @@
 #![tactic(auto)]
 
 #[cfg(test)]
+mod admitted;
+#[cfg(test)]
 mod all_orders;
 #[cfg(test)]
 mod beside;

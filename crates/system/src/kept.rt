@@ -104,7 +104,9 @@ impl<'n> NamedFile<'n> {
     {
         match against {
             Against::Refined { file } => NamedFile::source(file.as_str(), verbose, format),
-            Against::Expected { file } => NamedFile::whole(file.as_str(), verbose, format),
+            Against::Expected { file } | Against::Admitted { file } => {
+                NamedFile::whole(file.as_str(), verbose, format)
+            }
         }
     }
 }

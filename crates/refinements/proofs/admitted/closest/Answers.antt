@@ -1,0 +1,19 @@
+use Rattle.std.proofs.Common.{map, take}
+use Rattle.report.specs.Views.{reported_of}
+use Rattle.refinements.proofs.Among.{one_of}
+use Rattle.refinements.proofs.Nearest.{all_seen, none_before, one_seen}
+use Rattle.refinements.proofs.admitted.closest.Goals as goal
+
+pub outcomes-init : goal.outcomes-init
+outcomes-init g c = none_before c.args.outcomes.now
+
+pub outcomes-preserved : goal.outcomes-preserved
+outcomes-preserved g c =
+    one_seen c.args.outcomes.now c.args.report.now c.outcomes.one-index c.one-item.result c.closer.result c.one-item.is c.outcomes-test.true
+    (c.closer.ensures (map reported_of (take c.outcomes.one-index c.args.outcomes.now)) c.args.report.now c.outcomes.invariant c.in-Some.ensures)
+
+pub returns-in-None : goal.returns-in-None
+returns-in-None g c = (one_of c.args.outcomes.now c.outcomes.one-index c.one-item.result c.one-item.is c.outcomes-test.true, c.in-None.ensures)
+
+pub returns : goal.returns
+returns g c = all_seen c.args.outcomes.now c.args.report.now c.outcomes.one-index c.outcomes.closest c.outcomes-test.false c.outcomes.invariant
