@@ -19,7 +19,7 @@ COMMANDS, EXPLANATIONS = f"{TOP}/docs/COMMANDS.md", f"{TOP}/crates/messages/src/
 FUNCTION = re.compile(r"^(?:pub )?fn (\w+).*?^\{\n(.*?)^\}", re.M | re.S)
 TEXT = r'"((?:[^"\\]|\\.)*)"'
 CALL = re.compile(
-    rf"\b(?:(?:text|wanted)\(\s*alloc,\s*{TEXT},\s*{TEXT},\s*{TEXT}|flag\(\s*alloc,\s*{TEXT},\s*{TEXT}"
+    rf"\b(?:(?:repeated|text|wanted)\(\s*alloc,\s*{TEXT},\s*{TEXT},\s*{TEXT}|flag\(\s*alloc,\s*{TEXT},\s*{TEXT}"
     rf"|short\('(\w)'\)\s*\.action\(ArgAction::Append\)\s*\.value_name\({TEXT}\)\s*\.help\({TEXT}"
     rf'|Arg::new\(alloc, "([A-Z]+)"\)|\.help\({TEXT}|(?:of_file|command_of)\(\s*alloc,\s*{TEXT},\s*{TEXT},\s*{TEXT}|(\w+)\(alloc)'
 )

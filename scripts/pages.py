@@ -58,7 +58,7 @@ def words_of_code():
 def options():
     """Each option of the command line."""
     text = read("crates/command/src/line.rt")
-    return set(re.findall(r'(?:flag|text|wanted)\(\s*alloc,\s*"([a-z-]+)"', text)) | set(re.findall(r'\.long\("([a-z-]+)"\)', text))
+    return set(re.findall(r'(?:flag|repeated|text|wanted)\(\s*alloc,\s*"([a-z-]+)"', text)) | set(re.findall(r'\.long\("([a-z-]+)"\)', text))
 
 
 def main():

@@ -6,7 +6,7 @@ _txc() {
             words='short json github'
             [[ ${COMP_WORDS[1]} == test ]] && words='github json' ;;
         --expect | --order-file | --refines | --report | --schedule) ;;
-        --always | --budget | --final | --from | --limit | --memory | --order | --property | --seed | --steps | --threads | --ticks | --time) return ;;
+        --always | --budget | --final | --from | --limit | --memory | --order | --property | --seed | --steps | --threads | --ticks | --time | --where) return ;;
         *)
             if ((COMP_CWORD == 1)); then
                 words='check listing run replay source trace explore outcomes certify test explain --help --version'
@@ -19,7 +19,7 @@ _txc() {
                     source) words='--verbose --format --threads --order --ticks --help' ;;
                     trace) words='--verbose --format --threads --order --property --full --help' ;;
                     explore) words='--verbose --format --threads --order --always --help' ;;
-                    outcomes) words='--verbose --format --threads --steps --limit --memory --time --refines --expect --always --final --keep-going --trace --help' ;;
+                    outcomes) words='--verbose --format --threads --steps --limit --memory --time --refines --expect --always --final --keep-going --trace --stats --where --summary --help' ;;
                     certify) words='--verbose --format --threads --order-file --report --ticks --help' ;;
                     test) words='--format --list --help' ;;
                     explain) words='--help' ;;

@@ -77,6 +77,9 @@ complete -c txc -n '__fish_seen_subcommand_from outcomes' -l always -x -d 'Check
 complete -c txc -n '__fish_seen_subcommand_from outcomes' -l final -x -d 'Check that functions return nonzero in every outcome, in place of the list'
 complete -c txc -n '__fish_seen_subcommand_from outcomes' -l keep-going -d 'Continue the search after each function has failed, and list all deadlocks'
 complete -c txc -n '__fish_seen_subcommand_from outcomes' -l trace -d 'Show how the first failure, deadlock and trap come about, as `txc trace` does, on standard error [default on a terminal]'
+complete -c txc -n '__fish_seen_subcommand_from outcomes' -l stats -d 'Report counts of the search and the transactions that it never reached, on standard error'
+complete -c txc -n '__fish_seen_subcommand_from outcomes' -l where -x -d 'List only outcomes in which a global compares so with a number, as '\''n == 3'\'' or '\''a[0] < 5'\'' [repeatable]'
+complete -c txc -n '__fish_seen_subcommand_from outcomes' -l summary -d 'Leave outcomes out of the list, and report the values of each global in them, on standard error'
 complete -c txc -n '__fish_seen_subcommand_from outcomes' -l help -d 'Print help'
 complete -c txc -n __fish_use_subcommand -a certify -d 'Check that a report is what the source prints in a given order of transactions, byte for byte'
 complete -c txc -n '__fish_seen_subcommand_from certify' -F

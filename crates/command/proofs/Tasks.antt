@@ -21,7 +21,7 @@ no_replay given none (PrintOrder threads order) is = none (Order order) is.2
 no_replay given none (Source threads order ticks) is = let e : 114 ≡ 115 = ap (λ l. slice_index l 0) is.0 in absurd (omega (arith, e))
 no_replay given none (Trace threads order property in_full) is = let e : 114 ≡ 116 = ap (λ l. slice_index l 0) is.0 in absurd (omega (arith, e))
 no_replay given none (Explore threads order always) is = let e : 114 ≡ 101 = ap (λ l. slice_index l 0) is.0 in absurd (omega (arith, e))
-no_replay given none (Outcomes threads steps limit memory time traces) is = let e : 114 ≡ 111 = ap (λ l. slice_index l 0) is.0 in absurd (omega (arith, e))
+no_replay given none (Outcomes threads steps limit memory time options) is = let e : 114 ≡ 111 = ap (λ l. slice_index l 0) is.0 in absurd (omega (arith, e))
 
 -- no first access to be drawn, no picture
 pub no_drawn : (given : List Row) → ((n : ℕ) → IsFirstDrawn given n → ⊥) → IsFlagged given (codes "picture") → AreNoTask (codes "replay") given
@@ -36,7 +36,7 @@ no_drawn given none drawn (PrintOrder threads order) is = let e : false ≡ true
 no_drawn given none drawn (Source threads order ticks) is = let e : 114 ≡ 115 = ap (λ l. slice_index l 0) is.0 in absurd (omega (arith, e))
 no_drawn given none drawn (Trace threads order property in_full) is = let e : 114 ≡ 116 = ap (λ l. slice_index l 0) is.0 in absurd (omega (arith, e))
 no_drawn given none drawn (Explore threads order always) is = let e : 114 ≡ 101 = ap (λ l. slice_index l 0) is.0 in absurd (omega (arith, e))
-no_drawn given none drawn (Outcomes threads steps limit memory time traces) is = let e : 114 ≡ 111 = ap (λ l. slice_index l 0) is.0 in absurd (omega (arith, e))
+no_drawn given none drawn (Outcomes threads steps limit memory time options) is = let e : 114 ≡ 111 = ap (λ l. slice_index l 0) is.0 in absurd (omega (arith, e))
 
 -- an order that is given makes other steps none
 pub no_ordered : (given : List Row) (text : Text) → first_of (codes "order") given ≡ Some text → ((ns : List ℕ) → IsOrderGiven given ns → (n : ℕ) → AreCounted given n → ⊥) → (steps : Steps) → AreSteps given steps → ⊥
@@ -57,7 +57,7 @@ no_source given none (PrintOrder threads order) is = let e : 115 ≡ 114 = ap (�
 no_source given none (Source threads order ticks) is = none order.items is.2
 no_source given none (Trace threads order property in_full) is = let e : 115 ≡ 116 = ap (λ l. slice_index l 0) is.0 in absurd (omega (arith, e))
 no_source given none (Explore threads order always) is = let e : 115 ≡ 101 = ap (λ l. slice_index l 0) is.0 in absurd (omega (arith, e))
-no_source given none (Outcomes threads steps limit memory time traces) is = let e : 115 ≡ 111 = ap (λ l. slice_index l 0) is.0 in absurd (omega (arith, e))
+no_source given none (Outcomes threads steps limit memory time options) is = let e : 115 ≡ 111 = ap (λ l. slice_index l 0) is.0 in absurd (omega (arith, e))
 
 -- no number of threads, no outcomes
 pub no_outcomes : (given : List Row) → ((first last : ℕ) → AreThreadsExplored given first last → ⊥) → AreNoTask (codes "outcomes") given
@@ -72,7 +72,7 @@ no_outcomes given none (PrintOrder threads order) is = let e : 111 ≡ 114 = ap 
 no_outcomes given none (Source threads order ticks) is = let e : 111 ≡ 115 = ap (λ l. slice_index l 0) is.0 in absurd (omega (arith, e))
 no_outcomes given none (Trace threads order property in_full) is = let e : 111 ≡ 116 = ap (λ l. slice_index l 0) is.0 in absurd (omega (arith, e))
 no_outcomes given none (Explore threads order always) is = let e : 111 ≡ 101 = ap (λ l. slice_index l 0) is.0 in absurd (omega (arith, e))
-no_outcomes given none (Outcomes threads steps limit memory time traces) is = none threads.first threads.last is.1
+no_outcomes given none (Outcomes threads steps limit memory time options) is = none threads.first threads.last is.1
 
 -- no order, no trace
 pub no_trace : (given : List Row) → ((order : List ℕ) → IsOrderGiven given order → ⊥) → AreNoTask (codes "trace") given
@@ -87,7 +87,7 @@ no_trace given none (PrintOrder threads order) is = let e : 116 ≡ 114 = ap (λ
 no_trace given none (Source threads order ticks) is = let e : 116 ≡ 115 = ap (λ l. slice_index l 0) is.0 in absurd (omega (arith, e))
 no_trace given none (Trace threads order property in_full) is = none order.items is.2
 no_trace given none (Explore threads order always) is = let e : 116 ≡ 101 = ap (λ l. slice_index l 0) is.0 in absurd (omega (arith, e))
-no_trace given none (Outcomes threads steps limit memory time traces) is = let e : 116 ≡ 111 = ap (λ l. slice_index l 0) is.0 in absurd (omega (arith, e))
+no_trace given none (Outcomes threads steps limit memory time options) is = let e : 116 ≡ 111 = ap (λ l. slice_index l 0) is.0 in absurd (omega (arith, e))
 
 -- without an order at which it opens, there is no page
 pub no_explore : (given : List Row) → ((order : List ℕ) → IsOrderOpened given order → ⊥) → AreNoTask (codes "explore") given
@@ -102,7 +102,7 @@ no_explore given none (PrintOrder threads order) is = let e : 101 ≡ 114 = ap (
 no_explore given none (Source threads order ticks) is = let e : 101 ≡ 115 = ap (λ l. slice_index l 0) is.0 in absurd (omega (arith, e))
 no_explore given none (Trace threads order property in_full) is = let e : 101 ≡ 116 = ap (λ l. slice_index l 0) is.0 in absurd (omega (arith, e))
 no_explore given none (Explore threads order always) is = none order.items is.2
-no_explore given none (Outcomes threads steps limit memory time traces) is = let e : 101 ≡ 111 = ap (λ l. slice_index l 0) is.0 in absurd (omega (arith, e))
+no_explore given none (Outcomes threads steps limit memory time options) is = let e : 101 ≡ 111 = ap (λ l. slice_index l 0) is.0 in absurd (omega (arith, e))
 
 -- if the given text lists no threads, a page opens at no order
 pub none_opened : (given : List Row) (text : Text) → Some text ≡ first_of (codes "order") given → ((order : List ℕ) → IsOrderGiven given order → ⊥) → (order : List ℕ) → IsOrderOpened given order → ⊥

@@ -41,7 +41,7 @@ no_task given (PrintOrder threads order) is = let e : 116 ≡ 114 = ap (λ l. sl
 no_task given (Source threads order ticks) is = let e : 116 ≡ 115 = ap (λ l. slice_index l 0) is.0 in absurd (omega (arith, e))
 no_task given (Trace threads order property in_full) is = let e : 4 ≡ 5 = ap length is.0 in absurd (omega (arith, e))
 no_task given (Explore threads order always) is = let e : 116 ≡ 101 = ap (λ l. slice_index l 0) is.0 in absurd (omega (arith, e))
-no_task given (Outcomes threads steps limit memory time traces) is = let e : 116 ≡ 111 = ap (λ l. slice_index l 0) is.0 in absurd (omega (arith, e))
+no_task given (Outcomes threads steps limit memory time options) is = let e : 116 ≡ 111 = ap (λ l. slice_index l 0) is.0 in absurd (omega (arith, e))
 
 no_request : (given : List Row) → AreNoRequest (codes "test") given
 no_request given (Program file verbose format task) is = no_task given task is.3

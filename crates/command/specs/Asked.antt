@@ -15,6 +15,7 @@ use Rattle.command.specs.declared.request.Comparison.{Comparison}
 use Rattle.command.specs.declared.request.Coverage.{Coverage}
 use Rattle.command.specs.declared.request.Format.{Format}
 use Rattle.command.specs.declared.request.Format.TheVariants.{Plain, Short, Json, Github}
+use Rattle.command.specs.declared.request.ListOptions.{ListOptions}
 use Rattle.command.specs.declared.request.Request.{Request}
 use Rattle.command.specs.declared.request.Request.TheVariants.{Program, Certify, Compare, Ask, Cover}
 use Rattle.command.specs.declared.request.Request.TheVariants.{Explain, ExplainEnd}
@@ -35,6 +36,10 @@ use Rattle.parameters.specs.Definitions.{IsDefinition, name_part}
 -- decimal digits alone, and their number, which is below 2 ^ 32
 abbrev pub IsDecimal : Text → ℕ → Type 0
 IsDecimal text n = IsNumeral 10 text × (digits_value 10 text ≡ n) × (n < 4294967296)
+
+-- the texts that are given for an argument
+abbrev pub all_given : Text → List Row → List Text
+all_given id given = unwrap_or (all_of id given) []
 
 -- a text spells a number below 2 ^ 32 in decimal digits, with an optional plus first
 abbrev pub SaysNumber : Text → ℕ → Type 0
@@ -181,6 +186,17 @@ NoFirstDrawn given = first_of (codes "from") given ≡ None
 abbrev pub are_asked : List Row → Bool
 are_asked given = is_some (first_of (codes "always") given) || is_some (first_of (codes "final") given)
 
+-- the form of a list of outcomes, and the output in addition to it
+pub record AreListOptions (given : List Row) (options : ListOptions) : Type 0 where
+  pub traces : IsTrue options.traces ↔ IsFlagged given (codes "trace")
+  pub stats : IsTrue options.stats ↔ IsFlagged given (codes "stats")
+  pub conditions : map string_bytes options.conditions.items ≡ all_given (codes "where") given
+  pub summary : IsTrue options.summary ↔ IsFlagged given (codes "summary")
+
+-- no condition is given
+abbrev pub IsUnfiltered : List Row → Type 0
+IsUnfiltered given = first_of (codes "where") given ≡ None
+
 -- the task with a program whose outcomes are compared with nothing, and of which no property is checked
 abbrev pub IsTask : Text → List Row → Task → Type 0
 IsTask name given (Check told) = (name ≡ codes "check") × (IsTrue told.warns ↔ IsFlagged given (codes "warn"))
@@ -211,12 +227,12 @@ IsTask name given (Trace threads order property in_full) = (name ≡ codes "trac
 IsTask name given (Explore threads order always) = (name ≡ codes "explore")
     × IsNumberInRange given (codes "threads") 2 1 64 threads
     × IsOrderOpened given order.items × (option_map string_bytes always ≡ first_of (codes "always") given)
-IsTask name given (Outcomes threads steps limit memory time traces) = (name ≡ codes "outcomes")
+IsTask name given (Outcomes threads steps limit memory time options) = (name ≡ codes "outcomes")
     × AreThreadsExplored given threads.first threads.last
     × IsNumberInRange given (codes "steps") 1000000 0 4294967295 steps
     × IsNumberInRange given (codes "limit") 1000000 0 4294967295 limit
     × IsNumberInRange given (codes "memory") 1024 0 4294967295 memory × IsNumberRead (one_of (codes "time") given) time
-    × AreUncompared given × (are_asked given ≡ false) × (IsTrue traces ↔ IsFlagged given (codes "trace"))
+    × AreUncompared given × (are_asked given ≡ false) × AreListOptions given options
 
 -- the properties to check: functions that must hold in every state, and those that must hold in every outcome
 pub record AreQuestions (given : List Row) (questions : Questions) : Type 0 where
@@ -229,6 +245,8 @@ pub record AreQuestions (given : List Row) (questions : Questions) : Type 0 wher
   pub last : option_map string_bytes questions.last ≡ first_of (codes "final") given
   pub keeps_going : IsTrue questions.keeps_going ↔ IsFlagged given (codes "keep-going")
   pub traces : IsTrue questions.traces ↔ IsFlagged given (codes "trace")
+  pub stats : IsTrue questions.stats ↔ IsFlagged given (codes "stats")
+  pub unfiltered : IsUnfiltered given
 
 -- `any` is given instead of a number of threads
 pub record IsAnyNumber (given : List Row) : Type 0 where
@@ -241,6 +259,7 @@ pub record IsCoverageAsked (given : List Row) (coverage : Coverage) : Type 0 whe
   pub uncompared : AreUncompared given
   pub none_last : first_of (codes "final") given ≡ None
   pub none_timed : first_of (codes "time") given ≡ None
+  pub unfiltered : IsUnfiltered given
   pub steps : IsNumberInRange given (codes "steps") 1000000 0 4294967295 coverage.steps
   pub limit : IsNumberInRange given (codes "limit") 1000000 0 4294967295 coverage.limit
   pub memory : IsNumberInRange given (codes "memory") 1024 0 4294967295 coverage.memory
@@ -285,6 +304,7 @@ pub record IsComparison (given : List Row) (comparison : Comparison) : Type 0 wh
   pub time : IsNumberRead (one_of (codes "time") given) comparison.time
   pub against : IsAgainst given comparison.against
   pub listed : IsListedFor comparison.against comparison.threads.first comparison.threads.last
+  pub unfiltered : IsUnfiltered given
 
 -- how faults are reported, by the value of `--format`
 abbrev pub IsFormat : Option Text → Format → Type 0
@@ -348,7 +368,7 @@ has_twice (n ∷ ns) = if is_among n ns then true else has_twice ns
 
 -- the words of `-D`
 abbrev pub words_defining : List Row → List Text
-words_defining given = unwrap_or (all_of (codes "define") given) []
+words_defining given = all_given (codes "define") given
 
 -- the numbers that replace names; without `-D` there are none
 pub record AreDefinitions (name : Text) (given : List Row) (ds : List Definition) : Type 0 where

@@ -19,6 +19,10 @@ flag_rule name = record (new_rule name) { long = Some name; action = Some SetTru
 abbrev pub text_rule : Text → Rule
 text_rule name = record (new_rule name) { long = Some name; action = Some Set; value_names = 1 }
 
+-- an option of this name with a value, any number of times
+abbrev pub repeated_rule : Text → Rule
+repeated_rule name = record (new_rule name) { long = Some name; action = Some Append; value_names = 1 }
+
 -- `-D`, any number of times
 abbrev pub define_rule : Rule
 define_rule = record (new_rule (codes "define")) { short = Some 68; action = Some Append; value_names = 1 }
@@ -96,7 +100,9 @@ abbrev pub outcomes_app : App
 outcomes_app =
     let always = with_rule outcome_states_app (text_rule (codes "always")) in
     let last = with_rule always (text_rule (codes "final")) in
-    with_rule (with_rule last (flag_rule (codes "keep-going"))) (flag_rule (codes "trace"))
+    let trace = with_rule (with_rule last (flag_rule (codes "keep-going"))) (flag_rule (codes "trace")) in
+    let conditions = with_rule (with_rule trace (flag_rule (codes "stats"))) (repeated_rule (codes "where")) in
+    with_rule conditions (flag_rule (codes "summary"))
 
 abbrev pub certify_app : App
 certify_app =

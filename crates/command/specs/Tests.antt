@@ -1,7 +1,7 @@
 -- Command lines that test files.
-use Rattle.std.specs.Prelude.{◌≡◌, ◌↔◌, IsTrue, List, [], Option, Some, None, codes, map, string_bytes, unwrap_or}
-use Rattle.clap.specs.Words.{Row, Text, all_of, fault_of, first_of, subcommand_of}
-use Rattle.command.specs.Asked.{IsCommanded, IsFlagged, Refuses, Requests}
+use Rattle.std.specs.Prelude.{◌≡◌, ◌↔◌, IsTrue, List, [], Option, Some, None, codes, map, string_bytes}
+use Rattle.clap.specs.Words.{Row, Text, fault_of, first_of, subcommand_of}
+use Rattle.command.specs.Asked.{IsCommanded, IsFlagged, Refuses, Requests, all_given}
 use Rattle.command.specs.Line.{program_app}
 use Rattle.command.specs.declared.request.Job.{Job}
 use Rattle.command.specs.declared.request.Job.TheVariants.{Serve, Test}
@@ -19,7 +19,7 @@ IsTestFormat text Json = text ≡ Some (codes "json")
 
 -- the files to test, and the options of the test
 pub record AreTests (given : List Row) (tests : Tests) : Type 0 where
-  pub files : map string_bytes tests.files.items ≡ unwrap_or (all_of (codes "FILE") given) []
+  pub files : map string_bytes tests.files.items ≡ all_given (codes "FILE") given
   pub format : IsTestFormat (first_of (codes "format") given) tests.format
   pub lists : IsTrue tests.lists ↔ IsFlagged given (codes "list")
 

@@ -8,7 +8,7 @@ ghost use Rattle.command.specs.declared.request.Comparison.{Comparison};
 ghost use Rattle.command.specs.inner.Refusals.{IsOwn};
 
 use crate::claim::file_given;
-use crate::given::{number_given, text_given, wrong};
+use crate::given::{number_given, refuse_conditions, text_given, wrong};
 use crate::range::threads_explored;
 use crate::request::{Against, Comparison, ThreadRange, UsageFault};
 use crate::task::number;
@@ -85,6 +85,7 @@ pub(crate) fn comparison(alloc: Global, given: &ArgMatches<'_>) -> Result<Compar
     ensures ok { IfOk result (IsComparison (rows_of (found_of given.now))) }
     ensures err { IfErr result (IsOwn ((c : Comparison) → IsComparison (rows_of (found_of given.now)) c → ⊥)) }
 {
+    refuse_conditions(alloc, given)?;
     let threads = threads_explored(alloc, given)?;
     let steps = number(alloc, given, "steps", 1000000, 0, u32::MAX)?;
     let limit = number(alloc, given, "limit", 1000000, 0, u32::MAX)?;

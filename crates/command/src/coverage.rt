@@ -7,7 +7,7 @@ ghost use Rattle.command.specs.declared.request.Coverage.{Coverage};
 ghost use Rattle.command.specs.inner.Refusals.{IsOwn};
 
 use crate::comparison::{compares, has_text};
-use crate::given::{NoNumber, is_given, read_number, text_wanted, wrong};
+use crate::given::{NoNumber, is_given, read_number, refuse_conditions, text_wanted, wrong};
 use crate::request::{Coverage, UsageFault};
 use crate::task::number;
 use clap::ArgMatches;
@@ -49,6 +49,7 @@ pub(crate) fn coverage(alloc: Global, given: &ArgMatches<'_>) -> Result<Coverage
     if has_text(given, "time") {
         return Err(wrong(alloc, "--threads any takes no --time"));
     }
+    refuse_conditions(alloc, given)?;
     Ok(Coverage {
         steps: number(alloc, given, "steps", 1000000, 0, u32::MAX)?,
         limit: number(alloc, given, "limit", 1000000, 0, u32::MAX)?,

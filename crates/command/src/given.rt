@@ -1,9 +1,9 @@
 //! What words give for the arguments of a command.
 
-ghost use Rattle.std.specs.Prelude.{◌≡◌, ◌↔◌, IsTrue, IsSomeAnd, Some, None, IfOk, IfErr, OnErr, codes, option_map};
+ghost use Rattle.std.specs.Prelude.{◌≡◌, ◌↔◌, IsTrue, IsSomeAnd, Some, None, IfOk, IfErr, OnErr, codes, map, option_map};
 ghost use Rattle.std.specs.Prelude.{string_bytes};
 ghost use Rattle.clap.specs.Words.{first_of, found_of, one_of, rows_of};
-ghost use Rattle.command.specs.Asked.{IsNoNumber, IsNumberRead};
+ghost use Rattle.command.specs.Asked.{IsNoNumber, IsNumberRead, IsUnfiltered, all_given};
 ghost use Rattle.command.specs.inner.Refusals.{IsOwn};
 
 use crate::order::order;
@@ -45,6 +45,32 @@ pub(crate) fn text_kept(
     }
 }
 
+/// Copies texts.
+fn copied(alloc: Global, texts: &[&str]) -> Result<Vec<String>, AllocError>
+    ensures { IfOk result (λ v. map string_bytes v.items ≡ map (λ w. w.now) texts.now) }
+{
+    let mut copies = Vec::new(alloc);
+    'texts: for text in texts {
+        let copy = String::from_str(alloc, *text)?;
+        copies.push(copy)?;
+    }
+    Ok(copies)
+}
+
+/// Copies of the texts that are given for an argument.
+pub(crate) fn texts_given(
+    alloc: Global,
+    given: &ArgMatches<'_>,
+    id: &str,
+) -> Result<Vec<String>, AllocError>
+    ensures { IfOk result (λ v. map string_bytes v.items ≡ all_given id.now (rows_of (found_of given.now))) }
+{
+    match given.get_strs(id) {
+        Some(texts) => copied(alloc, texts),
+        None => Ok(Vec::new(alloc)),
+    }
+}
+
 /// The text that is given for an argument which the command line wants.
 pub(crate) fn text_wanted(
     alloc: Global,
@@ -75,6 +101,20 @@ pub(crate) fn flag_given(given: &ArgMatches<'_>, id: &str) -> bool
     ensures { IsTrue result ↔ (first_of id.now (rows_of (found_of given.now)) ≡ Some (codes "true")) }
 {
     is_given(given, id, "true")
+}
+
+/// Refuses conditions on listed outcomes, if any are given: the command prints no list.
+pub(crate) fn refuse_conditions(alloc: Global, given: &ArgMatches<'_>) -> Result<(), UsageFault>
+    ensures ok { IfOk result (λ _. IsUnfiltered (rows_of (found_of given.now))) }
+    ensures err { IfErr result (IsOwn (IsUnfiltered (rows_of (found_of given.now)) → ⊥)) }
+{
+    match text_given(given, "where") {
+        None => Ok(()),
+        Some(_) => Err(wrong(
+            alloc,
+            "--where takes no --always, --final, --refines, --expect or --threads any",
+        )),
+    }
 }
 
 /// A text that says no number below 2^32.

@@ -19,6 +19,6 @@ mod tests;
 pub use listed::listed_order;
 pub use read::{command, job};
 pub use request::{
-    Against, Asked, CheckOptions, Claim, Comparison, Coverage, Format, Job, Questions, Request,
-    Steps, Task, TestFormat, Tests, ThreadRange, UsageFault,
+    Against, Asked, CheckOptions, Claim, Comparison, Coverage, Format, Job, ListOptions, Questions,
+    Request, Steps, Task, TestFormat, Tests, ThreadRange, UsageFault,
 };

@@ -6,7 +6,8 @@ ghost use Rattle.command.specs.inner.Made.{IsMade};
 ghost use Rattle.command.specs.Line.{file_rule, flag_rule, fault_rule, text_rule, wanted_rule, order_rule, file_app};
 ghost use Rattle.command.specs.Line.{check_app, listing_app, run_app, replay_steps_app, replay_app, source_app};
 ghost use Rattle.command.specs.Line.{outcome_states_app, outcomes_app, certify_app, explain_app, commandless_app};
-ghost use Rattle.command.specs.Line.{define_rule, files_rule, explore_app, program_app, test_app, trace_app, trap_rule};
+ghost use Rattle.command.specs.Line.{define_rule, explore_app, files_rule, program_app, repeated_rule, test_app};
+ghost use Rattle.command.specs.Line.{trace_app, trap_rule};
 
 use clap::{Arg, ArgAction, Command};
 use std::alloc::{AllocError, Global};
@@ -45,6 +46,18 @@ fn text<'a>(alloc: Global, name: &'a str, value: &'a str, help: &'a str) -> Arg<
     Arg::new(alloc, name)
         .long(name)
         .action(ArgAction::Set)
+        .value_name(value)
+        .help(help)
+}
+
+/// An option with a value, any number of times.
+fn repeated<'a>(alloc: Global, name: &'a str, value: &'a str, help: &'a str) -> Arg<'a>
+    ensures rule { rule_of result ≡ repeated_rule name.entry.now }
+    ensures global { result.global ≡ false }
+{
+    Arg::new(alloc, name)
+        .long(name)
+        .action(ArgAction::Append)
         .value_name(value)
         .help(help)
 }
@@ -493,7 +506,26 @@ fn outcomes<'a>(alloc: Global) -> Result<Command<'a>, AllocError>
         "trace",
         "Show how the first failure, deadlock and trap come about, as `txc trace` does, on standard error [default on a terminal]",
     );
-    with(command, trace)
+    let command = with(command, trace);
+    let stats = flag(
+        alloc,
+        "stats",
+        "Report counts of the search and the transactions that it never reached, on standard error",
+    );
+    let command = with(command, stats);
+    let conditions = repeated(
+        alloc,
+        "where",
+        "CONDITION",
+        "List only outcomes in which a global compares so with a number, as 'n == 3' or 'a[0] < 5' [repeatable]",
+    );
+    let command = with(command, conditions);
+    let summary = flag(
+        alloc,
+        "summary",
+        "Leave outcomes out of the list, and report the values of each global in them, on standard error",
+    );
+    with(command, summary)
 }
 
 /// The command that certifies a report.

@@ -6,7 +6,7 @@ ghost use Rattle.command.specs.Asked.{AreQuestions, are_asked};
 ghost use Rattle.command.specs.declared.request.Questions.{Questions};
 ghost use Rattle.command.specs.inner.Refusals.{IsOwn};
 
-use crate::given::{flag_given, number_given, text_given, text_kept};
+use crate::given::{flag_given, number_given, refuse_conditions, text_given, text_kept};
 use crate::range::threads_explored;
 use crate::request::{Questions, UsageFault};
 use crate::task::number;
@@ -44,6 +44,7 @@ pub(crate) fn questions(alloc: Global, given: &ArgMatches<'_>) -> Result<Questio
     ensures ok { IfOk result (AreQuestions (rows_of (found_of given.now))) }
     ensures err { IfErr result (IsOwn ((q : Questions) → AreQuestions (rows_of (found_of given.now)) q → ⊥)) }
 {
+    refuse_conditions(alloc, given)?;
     let threads = threads_explored(alloc, given)?;
     let steps = number(alloc, given, "steps", 1000000, 0, u32::MAX)?;
     let limit = number(alloc, given, "limit", 1000000, 0, u32::MAX)?;
@@ -59,5 +60,6 @@ pub(crate) fn questions(alloc: Global, given: &ArgMatches<'_>) -> Result<Questio
         last: text_kept(alloc, given, "final")?,
         keeps_going: flag_given(given, "keep-going"),
         traces: flag_given(given, "trace"),
+        stats: flag_given(given, "stats"),
     })
 }

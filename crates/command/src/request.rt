@@ -157,6 +157,8 @@ pub struct Questions {
     pub keeps_going: bool,
     /// Whether traces are reported of the first order after which a function fails, and of the first stuck order.
     pub traces: bool,
+    /// Whether counts of the search are reported.
+    pub stats: bool,
 }
 
 /// The functions that must hold in every state that 1 to 64 threads reach, for each number of threads. The search finds
@@ -192,6 +194,19 @@ pub struct CheckOptions {
     pub warns: bool,
     /// Whether more faults than the first of a refused program are reported.
     pub all: bool,
+}
+
+/// The form of a list of outcomes, and the output in addition to it.
+#[derive(Debug, Drop)]
+pub struct ListOptions {
+    /// Whether traces are reported of the first stuck order, and of the first order in which a thread traps.
+    pub traces: bool,
+    /// Whether counts of the search are reported.
+    pub stats: bool,
+    /// The conditions that each listed outcome meets.
+    pub conditions: Vec<String>,
+    /// Whether the list has no outcomes, and the values of globals in them are reported instead.
+    pub summary: bool,
 }
 
 /// A task with a program.
@@ -267,8 +282,7 @@ pub enum Task {
         limit: u32,
         memory: u32,
         time: Option<u32>,
-        /// Whether traces are reported of the first stuck order, and of the first order in which a thread traps.
-        traces: bool,
+        options: ListOptions,
     },
 }
 

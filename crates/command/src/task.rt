@@ -2,7 +2,7 @@
 
 ghost use Rattle.std.specs.Prelude.{◌≡◌, ◌≤◌, ◌↔◌, ℕ, List, IfOk, IfErr, IsTrue, Some, None, codes, false, string_bytes};
 ghost use Rattle.clap.specs.Words.{first_of, found_of, rows_of};
-ghost use Rattle.command.specs.Asked.{AreCounted, AreScheduled, AreSteps, AreThreadsGiven};
+ghost use Rattle.command.specs.Asked.{AreCounted, AreListOptions, AreScheduled, AreSteps, AreThreadsGiven};
 ghost use Rattle.command.specs.Asked.{AreUncompared, IsFirstDrawn, IsNotBoth, IsNumberInRange, IsOrderGiven};
 ghost use Rattle.command.specs.Asked.{IsOrderOpened, IsTask};
 ghost use Rattle.command.specs.Asked.{are_asked};
@@ -10,13 +10,14 @@ ghost use Rattle.command.specs.declared.request.Steps.{Steps};
 ghost use Rattle.command.specs.inner.Refusals.{AreNoTask, IsOutOfRange, IsOwn};
 
 use crate::given::{
-    flag_given, is_given, number_given, out_of_range, text_given, text_kept, text_wanted, wrong,
+    flag_given, is_given, number_given, out_of_range, text_given, text_kept, text_wanted,
+    texts_given, wrong,
 };
 use crate::order::order;
 use crate::range::threads_explored;
-use crate::request::{CheckOptions, Steps, Task, UsageFault};
+use crate::request::{CheckOptions, ListOptions, Steps, Task, UsageFault};
 use clap::ArgMatches;
-use std::alloc::Global;
+use std::alloc::{AllocError, Global};
 
 /// The most threads.
 pub(crate) const MOST_THREADS: u32 = 64;
@@ -240,6 +241,19 @@ fn explore(alloc: Global, given: &ArgMatches<'_>) -> Result<Task, UsageFault>
     })
 }
 
+/// The form of a list of outcomes, and the output in addition to it.
+fn list_options(alloc: Global, given: &ArgMatches<'_>) -> Result<ListOptions, AllocError>
+    ensures { IfOk result (AreListOptions (rows_of (found_of given.now))) }
+{
+    let conditions = texts_given(alloc, given, "where")?;
+    Ok(ListOptions {
+        traces: flag_given(given, "trace"),
+        stats: flag_given(given, "stats"),
+        conditions,
+        summary: flag_given(given, "summary"),
+    })
+}
+
 /// The outcomes of all orders, where they are compared with nothing and no function is asked.
 fn outcomes(alloc: Global, given: &ArgMatches<'_>) -> Result<Task, UsageFault>
     requires alone { AreUncompared (rows_of (found_of given.now)) }
@@ -253,7 +267,7 @@ fn outcomes(alloc: Global, given: &ArgMatches<'_>) -> Result<Task, UsageFault>
         limit: number(alloc, given, "limit", 1000000, 0, u32::MAX)?,
         memory: number(alloc, given, "memory", 1024, 0, u32::MAX)?,
         time: number_given(alloc, given, "time", 0, u32::MAX)?,
-        traces: flag_given(given, "trace"),
+        options: list_options(alloc, given)?,
     })
 }
 

@@ -9,11 +9,11 @@ fn ranges() -> &'static [Row] {
     static ROWS: [Row; 7] = [
         (
             "txc|outcomes|a.c|--threads|2..4",
-            br#"Ok(Program { file: "a.c", verbose: false, format: Plain, task: Outcomes { threads: ThreadRange { first: 2, last: 4 }, steps: 1000000, limit: 1000000, memory: 1024, time: None, traces: false } })"#,
+            br#"Ok(Program { file: "a.c", verbose: false, format: Plain, task: Outcomes { threads: ThreadRange { first: 2, last: 4 }, steps: 1000000, limit: 1000000, memory: 1024, time: None, options: ListOptions { traces: false, stats: false, conditions: [], summary: false } } })"#,
         ),
         (
             "txc|outcomes|a.c|--threads=1..64|--always=p",
-            br#"Ok(Ask { file: "a.c", verbose: false, format: Plain, questions: Questions { threads: ThreadRange { first: 1, last: 64 }, steps: 1000000, limit: 1000000, memory: 1024, time: None, always: Some("p"), last: None, keeps_going: false, traces: false } })"#,
+            br#"Ok(Ask { file: "a.c", verbose: false, format: Plain, questions: Questions { threads: ThreadRange { first: 1, last: 64 }, steps: 1000000, limit: 1000000, memory: 1024, time: None, always: Some("p"), last: None, keeps_going: false, traces: false, stats: false } })"#,
         ),
         (
             "txc|outcomes|a.c|--threads=03..3|--refines=b.c",

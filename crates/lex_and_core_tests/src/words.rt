@@ -186,22 +186,22 @@ fn reads_orders(rt: HostRuntime) {
 }
 
 fn outcomes() -> &'static [Row] {
-    static ROWS: [Row; 14] = [
+    static ROWS: [Row; 21] = [
         (
             "txc|outcomes|a.c",
-            br#"Ok(Program { file: "a.c", verbose: false, format: Plain, task: Outcomes { threads: ThreadRange { first: 2, last: 2 }, steps: 1000000, limit: 1000000, memory: 1024, time: None, traces: false } })"#,
+            br#"Ok(Program { file: "a.c", verbose: false, format: Plain, task: Outcomes { threads: ThreadRange { first: 2, last: 2 }, steps: 1000000, limit: 1000000, memory: 1024, time: None, options: ListOptions { traces: false, stats: false, conditions: [], summary: false } } })"#,
         ),
         (
             "txc|outcomes|--threads=64|--steps=4294967295|--limit=4294967295|a.c|--verbose",
-            br#"Ok(Program { file: "a.c", verbose: true, format: Plain, task: Outcomes { threads: ThreadRange { first: 64, last: 64 }, steps: 4294967295, limit: 4294967295, memory: 1024, time: None, traces: false } })"#,
+            br#"Ok(Program { file: "a.c", verbose: true, format: Plain, task: Outcomes { threads: ThreadRange { first: 64, last: 64 }, steps: 4294967295, limit: 4294967295, memory: 1024, time: None, options: ListOptions { traces: false, stats: false, conditions: [], summary: false } } })"#,
         ),
         (
             "txc|outcomes|a.c|--limit|0|--steps|0|--threads|2",
-            br#"Ok(Program { file: "a.c", verbose: false, format: Plain, task: Outcomes { threads: ThreadRange { first: 2, last: 2 }, steps: 0, limit: 0, memory: 1024, time: None, traces: false } })"#,
+            br#"Ok(Program { file: "a.c", verbose: false, format: Plain, task: Outcomes { threads: ThreadRange { first: 2, last: 2 }, steps: 0, limit: 0, memory: 1024, time: None, options: ListOptions { traces: false, stats: false, conditions: [], summary: false } } })"#,
         ),
         (
             "txc|outcomes|--trace|a.c|--format=json",
-            br#"Ok(Program { file: "a.c", verbose: false, format: Json, task: Outcomes { threads: ThreadRange { first: 2, last: 2 }, steps: 1000000, limit: 1000000, memory: 1024, time: None, traces: true } })"#,
+            br#"Ok(Program { file: "a.c", verbose: false, format: Json, task: Outcomes { threads: ThreadRange { first: 2, last: 2 }, steps: 1000000, limit: 1000000, memory: 1024, time: None, options: ListOptions { traces: true, stats: false, conditions: [], summary: false } } })"#,
         ),
         (
             "txc|outcomes|--threads=0|a.c",
@@ -226,15 +226,15 @@ fn outcomes() -> &'static [Row] {
         ),
         (
             "txc|outcomes|--memory|0|a.c",
-            br#"Ok(Program { file: "a.c", verbose: false, format: Plain, task: Outcomes { threads: ThreadRange { first: 2, last: 2 }, steps: 1000000, limit: 1000000, memory: 0, time: None, traces: false } })"#,
+            br#"Ok(Program { file: "a.c", verbose: false, format: Plain, task: Outcomes { threads: ThreadRange { first: 2, last: 2 }, steps: 1000000, limit: 1000000, memory: 0, time: None, options: ListOptions { traces: false, stats: false, conditions: [], summary: false } } })"#,
         ),
         (
             "txc|outcomes|--time=4294967295|a.c",
-            br#"Ok(Program { file: "a.c", verbose: false, format: Plain, task: Outcomes { threads: ThreadRange { first: 2, last: 2 }, steps: 1000000, limit: 1000000, memory: 1024, time: Some(4294967295), traces: false } })"#,
+            br#"Ok(Program { file: "a.c", verbose: false, format: Plain, task: Outcomes { threads: ThreadRange { first: 2, last: 2 }, steps: 1000000, limit: 1000000, memory: 1024, time: Some(4294967295), options: ListOptions { traces: false, stats: false, conditions: [], summary: false } } })"#,
         ),
         (
             "txc|outcomes|--time|0|--always|p|a.c",
-            br#"Ok(Ask { file: "a.c", verbose: false, format: Plain, questions: Questions { threads: ThreadRange { first: 2, last: 2 }, steps: 1000000, limit: 1000000, memory: 1024, time: Some(0), always: Some("p"), last: None, keeps_going: false, traces: false } })"#,
+            br#"Ok(Ask { file: "a.c", verbose: false, format: Plain, questions: Questions { threads: ThreadRange { first: 2, last: 2 }, steps: 1000000, limit: 1000000, memory: 1024, time: Some(0), always: Some("p"), last: None, keeps_going: false, traces: false, stats: false } })"#,
         ),
         (
             "txc|outcomes|--time=1s|a.c",
@@ -242,7 +242,37 @@ fn outcomes() -> &'static [Row] {
         ),
         (
             "txc|outcomes|--limit=4294967295|--steps=7|a.c",
-            br#"Ok(Program { file: "a.c", verbose: false, format: Plain, task: Outcomes { threads: ThreadRange { first: 2, last: 2 }, steps: 7, limit: 4294967295, memory: 1024, time: None, traces: false } })"#,
+            br#"Ok(Program { file: "a.c", verbose: false, format: Plain, task: Outcomes { threads: ThreadRange { first: 2, last: 2 }, steps: 7, limit: 4294967295, memory: 1024, time: None, options: ListOptions { traces: false, stats: false, conditions: [], summary: false } } })"#,
+        ),
+        (
+            "txc|outcomes|--stats|a.c",
+            br#"Ok(Program { file: "a.c", verbose: false, format: Plain, task: Outcomes { threads: ThreadRange { first: 2, last: 2 }, steps: 1000000, limit: 1000000, memory: 1024, time: None, options: ListOptions { traces: false, stats: true, conditions: [], summary: false } } })"#,
+        ),
+        (
+            "txc|outcomes|--stats|--always=p|a.c",
+            br#"Ok(Ask { file: "a.c", verbose: false, format: Plain, questions: Questions { threads: ThreadRange { first: 2, last: 2 }, steps: 1000000, limit: 1000000, memory: 1024, time: None, always: Some("p"), last: None, keeps_going: false, traces: false, stats: true } })"#,
+        ),
+        // the texts of conditions are kept, whatever they say
+        (
+            "txc|outcomes|--where|n == 3|a.c|--where=|--where=a[0]<-1",
+            br#"Ok(Program { file: "a.c", verbose: false, format: Plain, task: Outcomes { threads: ThreadRange { first: 2, last: 2 }, steps: 1000000, limit: 1000000, memory: 1024, time: None, options: ListOptions { traces: false, stats: false, conditions: ["n == 3", "", "a[0]<-1"], summary: false } } })"#,
+        ),
+        (
+            "txc|outcomes|--summary|a.c",
+            br#"Ok(Program { file: "a.c", verbose: false, format: Plain, task: Outcomes { threads: ThreadRange { first: 2, last: 2 }, steps: 1000000, limit: 1000000, memory: 1024, time: None, options: ListOptions { traces: false, stats: false, conditions: [], summary: true } } })"#,
+        ),
+        // conditions are of a list
+        (
+            "txc|outcomes|--where|n == 3|a.c|--always|p",
+            br#"Err(Wrong { text: "txc: usage: --where takes no --always, --final, --refines, --expect or --threads any\n" })"#,
+        ),
+        (
+            "txc|outcomes|--where|n == 3|a.c|--refines|b.c",
+            br#"Err(Wrong { text: "txc: usage: --where takes no --always, --final, --refines, --expect or --threads any\n" })"#,
+        ),
+        (
+            "txc|outcomes|--where|n == 3|a.c|--threads|any|--always|p",
+            br#"Err(Wrong { text: "txc: usage: --where takes no --always, --final, --refines, --expect or --threads any\n" })"#,
         ),
     ];
     &ROWS
@@ -744,27 +774,27 @@ fn questions() -> &'static [Row] {
     static ROWS: [Row; 8] = [
         (
             "txc|outcomes|a.c|--always|p",
-            br#"Ok(Ask { file: "a.c", verbose: false, format: Plain, questions: Questions { threads: ThreadRange { first: 2, last: 2 }, steps: 1000000, limit: 1000000, memory: 1024, time: None, always: Some("p"), last: None, keeps_going: false, traces: false } })"#,
+            br#"Ok(Ask { file: "a.c", verbose: false, format: Plain, questions: Questions { threads: ThreadRange { first: 2, last: 2 }, steps: 1000000, limit: 1000000, memory: 1024, time: None, always: Some("p"), last: None, keeps_going: false, traces: false, stats: false } })"#,
         ),
         (
             "txc|outcomes|--final=p,q|--threads=3|--steps=0|--limit=7|a.c|--verbose|--format=json",
-            br#"Ok(Ask { file: "a.c", verbose: true, format: Json, questions: Questions { threads: ThreadRange { first: 3, last: 3 }, steps: 0, limit: 7, memory: 1024, time: None, always: None, last: Some("p,q"), keeps_going: false, traces: false } })"#,
+            br#"Ok(Ask { file: "a.c", verbose: true, format: Json, questions: Questions { threads: ThreadRange { first: 3, last: 3 }, steps: 0, limit: 7, memory: 1024, time: None, always: None, last: Some("p,q"), keeps_going: false, traces: false, stats: false } })"#,
         ),
         (
             "txc|outcomes|a.c|--keep-going|--always=p",
-            br#"Ok(Ask { file: "a.c", verbose: false, format: Plain, questions: Questions { threads: ThreadRange { first: 2, last: 2 }, steps: 1000000, limit: 1000000, memory: 1024, time: None, always: Some("p"), last: None, keeps_going: true, traces: false } })"#,
+            br#"Ok(Ask { file: "a.c", verbose: false, format: Plain, questions: Questions { threads: ThreadRange { first: 2, last: 2 }, steps: 1000000, limit: 1000000, memory: 1024, time: None, always: Some("p"), last: None, keeps_going: true, traces: false, stats: false } })"#,
         ),
         (
             "txc|outcomes|a.c|--trace|--final=p",
-            br#"Ok(Ask { file: "a.c", verbose: false, format: Plain, questions: Questions { threads: ThreadRange { first: 2, last: 2 }, steps: 1000000, limit: 1000000, memory: 1024, time: None, always: None, last: Some("p"), keeps_going: false, traces: true } })"#,
+            br#"Ok(Ask { file: "a.c", verbose: false, format: Plain, questions: Questions { threads: ThreadRange { first: 2, last: 2 }, steps: 1000000, limit: 1000000, memory: 1024, time: None, always: None, last: Some("p"), keeps_going: false, traces: true, stats: false } })"#,
         ),
         (
             "txc|outcomes|-|--final=|--always=p,p",
-            br#"Ok(Ask { file: "-", verbose: false, format: Plain, questions: Questions { threads: ThreadRange { first: 2, last: 2 }, steps: 1000000, limit: 1000000, memory: 1024, time: None, always: Some("p,p"), last: Some(""), keeps_going: false, traces: false } })"#,
+            br#"Ok(Ask { file: "-", verbose: false, format: Plain, questions: Questions { threads: ThreadRange { first: 2, last: 2 }, steps: 1000000, limit: 1000000, memory: 1024, time: None, always: Some("p,p"), last: Some(""), keeps_going: false, traces: false, stats: false } })"#,
         ),
         (
             "txc|outcomes|a.c|--limit=9",
-            br#"Ok(Program { file: "a.c", verbose: false, format: Plain, task: Outcomes { threads: ThreadRange { first: 2, last: 2 }, steps: 1000000, limit: 9, memory: 1024, time: None, traces: false } })"#,
+            br#"Ok(Program { file: "a.c", verbose: false, format: Plain, task: Outcomes { threads: ThreadRange { first: 2, last: 2 }, steps: 1000000, limit: 9, memory: 1024, time: None, options: ListOptions { traces: false, stats: false, conditions: [], summary: false } } })"#,
         ),
         (
             "txc|outcomes|a.c|--always=p|--threads=65",

@@ -6,6 +6,8 @@ pub mod Report
 pub mod Pieces
 -- the text of a list of outcomes and of stuck orders
 pub mod OutcomeList
+-- the text of a list of those outcomes that meet conditions
+pub mod Chosen
 -- the text of a timeline
 pub mod Timeline
 -- the Rust types as plain ones

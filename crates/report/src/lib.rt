@@ -2,6 +2,7 @@
 //! with a report; the findings about properties; and the line of each step of a replay.
 #![tactic(auto)]
 
+mod chosen;
 mod coverings;
 mod each_once;
 mod outcome_list;
@@ -14,6 +15,7 @@ mod report_set;
 mod same;
 mod timeline;
 
+pub use chosen::{is_chosen, outcomes_text};
 pub use coverings::{CoveredFinding, CoveredProperty, coverings_text};
 pub use outcome_list::{ReportedOrder, WalkEnd, list_text};
 pub use pieces::{Piece, ThreadSeen, pieces_of, report_pieces};

@@ -117,7 +117,7 @@ pub(crate) fn push_walk_words<A: Allocator>(
 }
 
 /// Adds how many outcomes and stuck orders so many threads have, over how many states, and whether there may be more.
-fn push_count<A: Allocator>(
+pub(crate) fn push_count<A: Allocator>(
     list: &mut Vec<u8, A>,
     outcomes: u64,
     stuck: u64,

@@ -3,10 +3,12 @@ use Rattle.std.proofs.Common.{◌≡◌, ◌≢◌, ◌∙◌, inl, inr, ◌+◌
 use Rattle.std.specs.Io.KnownBytes.{Appends}
 use Rattle.std.proofs.Math.Seq.{take-append_seam}
 use Rattle.std.proofs.lemmas.List.{take_all, take-append-drop}
-use Rattle.report.specs.OutcomeList.{ReportedOrder, list_text}
+use Rattle.report.specs.Chosen.{outcomes_text}
+use Rattle.report.specs.OutcomeList.{ReportedOrder}
 use Rattle.report.specs.Properties.{Property, properties_text}
 use Rattle.report.specs.declared.outcome_list.WalkEnd.{WalkEnd}
 use Rattle.report.specs.declared.outcome_list.WalkEnd.TheVariants.{Whole}
+use Rattle.command.specs.declared.request.ListOptions.{ListOptions}
 use Rattle.serving.specs.InTurn.{AreTextsInTurn, SaysInTurn}
 use Rattle.serving.specs.Outcomes.{IsListOfOutcomes, PrintsOutcomes}
 use Rattle.serving.specs.Properties.{IsTextOfProperties, TellsProperties}
@@ -116,10 +118,10 @@ properties_written AreFound n old new tells =
     let h = tells.held refl in
     (properties_text h.0 [] n Whole, (h.0, [], Whole, h.1, refl), h.3)
 
-pub outcomes_written : (text : List ℕ) (n : ℕ) (old new : Option (List ℕ)) → PrintsOutcomes n text 0 old new → IsWritten (λ k list. IsListOfOutcomes k text list) n old new
-outcomes_written text n old new prints =
+pub outcomes_written : (options : ListOptions) (text : List ℕ) (n : ℕ) (old new : Option (List ℕ)) → PrintsOutcomes n options text 0 old new → IsWritten (λ k list. IsListOfOutcomes k options text list) n old new
+outcomes_written options text n old new prints =
     let p = prints (inl refl) in
-    (list_text p.0 [] p.1 n Whole, (Whole, (p.0, [], p.1, p.2, refl)), p.4)
+    (outcomes_text options.summary p.2 p.0 [] p.1 n Whole, (Whole, p.2, p.0, [], p.1, p.4, p.3, refl), p.6)
 
 pub verdict_written : (IsSo IsNot : ℕ → List ℕ → Type 0) (n : ℕ) (old new : Option (List ℕ)) → Tells (IsSo n) (IsNot n) 0 old new → IsWritten (λ k text. IsEither (IsSo k) (IsNot k) text) n old new
 verdict_written IsSo IsNot n old new tells = let w = tells.so refl in (w.0, inl w.1, w.2)

@@ -58,7 +58,7 @@ refused_task (PrintOrder threads order) text is = refused_text text is
 refused_task (Source threads order ticks) text is = is
 refused_task (Trace threads order property in_full) text is = refused_text text is
 refused_task (Explore threads order always) text is = refused_text text is
-refused_task (Outcomes threads steps limit memory time traces) text is = refused_text text is
+refused_task (Outcomes threads steps limit memory time options) text is = refused_text text is
 
 -- a file that is too long is refused
 pub long_refused : (known : Option (List ℕ)) → IfSome known (λ bytes. MOST_BYTES < length bytes) → IfSome known (λ bytes. IsRefused bytes)
@@ -82,8 +82,8 @@ nothing_printed (PrintOrder threads order) schedule text status old new zero thr
 nothing_printed (Source threads order ticks) schedule text status old new zero three = λ e. absurd (neither status zero three e)
 nothing_printed (Trace threads order property in_full) schedule text status old new zero three = λ e. absurd (neither status zero three e)
 nothing_printed (Explore threads order always) schedule text status old new zero three = λ e. absurd (zero e)
-nothing_printed (Outcomes threads steps limit memory time traces) schedule text status old new zero three =
-    stops (λ n s o w. PrintsOutcomes n text s o w) (threads.last - threads.first) threads.first status old new zero (λ e. absurd (neither status zero three e))
+nothing_printed (Outcomes threads steps limit memory time options) schedule text status old new zero three =
+    stops (λ n s o w. PrintsOutcomes n options text s o w) (threads.last - threads.first) threads.first status old new zero (λ e. absurd (neither status zero three e))
 
 -- the meaning of the status 1 there
 pub unread_refused : {IsOne : Type 0} (status : ℕ) → (status ≡ 1) × IsOne ⊎ (status ≡ 2) ⊎ (status ≡ 4) → status ≡ 1 → IsOne

@@ -50,8 +50,8 @@ Answers (Source threads order ticks) schedule text status old new =
 Answers (Trace threads order property in_full) schedule text status old new =
     PrintsTrace (λ written shown. TracesOrder threads order.items text written shown) status old new
 Answers (Explore threads order always) schedule text status old new = PrintsPage text status old new
-Answers (Outcomes threads steps limit memory time traces) schedule text status old new =
-    SaysOfRange (λ n s o w. PrintsOutcomes n text s o w) threads status old new
+Answers (Outcomes threads steps limit memory time options) schedule text status old new =
+    SaysOfRange (λ n s o w. PrintsOutcomes n options text s o w) threads status old new
 
 -- a request, if these are the bytes of the file
 abbrev pub AnswersRequest : Request → (schedule report : Option (List ℕ)) → (bytes : List ℕ) → (status : ℕ) →

@@ -23,7 +23,7 @@ IsRefusedFor (PrintOrder threads order) text = HasNoCode text
 IsRefusedFor (Source threads order ticks) text = IsRefused text
 IsRefusedFor (Trace threads order property in_full) text = HasNoCode text
 IsRefusedFor (Explore threads order always) text = HasNoCode text
-IsRefusedFor (Outcomes threads steps limit memory time traces) text = HasNoCode text
+IsRefusedFor (Outcomes threads steps limit memory time options) text = HasNoCode text
 
 -- why a request is refused, if these are the bytes of the file and of what its outcomes are compared with
 abbrev pub IsRequestRefused : Request → (other bytes : Option (List ℕ)) → Type 0

@@ -80,8 +80,8 @@ IsAskedFor (Source threads order ticks) schedule text written =
     IsReportOf (λ shown. RunsInOrder threads ticks order.items text shown × Accepts text) written
 IsAskedFor (Trace threads order property in_full) schedule text written = IsOrderTrace threads order.items text written
 IsAskedFor (Explore threads order always) schedule text written = IsPageOf text written
-IsAskedFor (Outcomes threads steps limit memory time traces) schedule text written =
-    AreTextsOfRange (λ n list. IsListOfOutcomes n text list) threads written
+IsAskedFor (Outcomes threads steps limit memory time options) schedule text written =
+    AreTextsOfRange (λ n list. IsListOfOutcomes n options text list) threads written
 
 -- a text is written, or a prefix of it
 abbrev pub AppendsBeginning : Option (List ℕ) → Option (List ℕ) → List ℕ → Type 0

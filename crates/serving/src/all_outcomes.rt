@@ -5,28 +5,35 @@ ghost use Rattle.std.specs.List.{list_any};
 ghost use Rattle.std.specs.Io.KnownBytes.{Appends};
 ghost use Rattle.parse.specs.Faults.{source_of};
 ghost use Rattle.syntax.specs.Views.{program_of};
+ghost use Rattle.conditions.specs.Conditions.{AreConditions};
+ghost use Rattle.conditions.specs.Views.{condition_of};
 ghost use Rattle.report.specs.Views.{reported_of};
 ghost use Rattle.report.specs.declared.outcome_list.WalkEnd.TheVariants.{Whole};
 ghost use Rattle.serving.specs.Checks.{IsSourceOf};
 ghost use Rattle.serving.specs.Codes.{IsCodeOf};
 ghost use Rattle.serving.specs.InTurn.{AreTextsOfRange, SaysOfRange};
 ghost use Rattle.serving.specs.Limits.{HasNoCode, IsFaultInOrders};
-ghost use Rattle.serving.specs.Outcomes.{AreOutcomesOfText, IsListOfOutcomes, PrintsOutcomes, outcomes_status};
+ghost use Rattle.serving.specs.Outcomes.{AreOutcomesOfText, IsListOfOutcomes, PrintsOutcomes, conditions_in};
+ghost use Rattle.serving.specs.Outcomes.{outcomes_status};
 ghost use Rattle.serving.specs.Reports.{has_trapped};
 ghost use Rattle.serving.specs.Written.{WritesPart};
-ghost use Rattle.serving.specs.inner.Compared.{list_of};
+ghost use Rattle.serving.specs.inner.Compared.{chosen_of};
 ghost use Rattle.serving.specs.inner.Serves.{PrintsInTurn, Serves, ServesText};
 
+use crate::chosen::{conditions_read, refuse_unknown};
 use crate::listed_ends::tell_listed_ends;
 use crate::listed_traces::tell_listed_traces;
 use crate::print::{ENDED, STOPPED, TRAPPED, has_trapped, print};
-use crate::program::{Compiled, compile};
+use crate::program::{Compiled, compile, unit_of};
 use crate::results::tell_list;
 use crate::source::OrderFault;
+use crate::stats::tell_stats;
+use crate::summary::tell_summary;
 use crate::tell::{Teller, cannot_write, out_of_memory};
 use crate::walked::{OutcomesFound, outcomes_in};
-use command::ThreadRange;
-use report::{ReportedOrder, WalkEnd, list_text};
+use command::{ListOptions, ThreadRange};
+use conditions::Condition;
+use report::{ReportedOrder, WalkEnd, outcomes_text};
 use std::alloc::Allocator;
 use std::io::Write;
 
@@ -39,19 +46,86 @@ pub(crate) fn all_outcomes<A: Allocator + Copy, W: Write, E: Write>(
     steps: u64,
     limit: u32,
     memory: u64,
+    options: &ListOptions,
     out: &mut W,
     teller: &mut Teller<'_, E>,
 ) -> u8
-    ensures { ServesText (SaysOfRange (λ n s o w. PrintsOutcomes n text.now s o w) range) (HasNoCode text.now)
-        (AreTextsOfRange (λ n list. IsListOfOutcomes n text.now list) range) result (W.contents out.old)
-        (W.contents out.new) }
+    ensures { ServesText (SaysOfRange (λ n s o w. PrintsOutcomes n options.now text.now s o w) range)
+        (HasNoCode text.now) (AreTextsOfRange (λ n list. IsListOfOutcomes n options.now text.now list) range) result
+        (W.contents out.old) (W.contents out.new) }
 {
     match compile(alloc, text) {
-        Ok(compiled) => list_in_turn(
-            alloc, text, &compiled, range, steps, limit, memory, out, teller,
+        Ok(compiled) => list_compiled(
+            alloc, text, &compiled, range, steps, limit, memory, options, out, teller,
         ),
         Err(fault) => teller.refuse(alloc, text, fault),
     }
+}
+
+/// Lists the outcomes of a program that meet the conditions of a request, if these are conditions on its globals.
+fn list_compiled<A: Allocator + Copy, W: Write, E: Write>(
+    alloc: A,
+    text: &str,
+    compiled: &Compiled<A>,
+    range: ThreadRange,
+    steps: u64,
+    limit: u32,
+    memory: u64,
+    options: &ListOptions,
+    out: &mut W,
+    teller: &mut Teller<'_, E>,
+) -> u8
+    requires source { IsSourceOf text.now (source_of compiled.now.accepted.safe.typed.unit) }
+    requires code { IsCodeOf (program_of compiled.now.accepted.safe.typed.unit) compiled.now.code }
+    ensures { PrintsInTurn 4 (λ n s o w. PrintsOutcomes n options.now text.now s o w)
+        (λ n list. IsListOfOutcomes n options.now text.now list) (range.last - range.first) range.first result
+        (W.contents out.old) (W.contents out.new) }
+{
+    match conditions_read(alloc, options, teller.err) {
+        Ok(conditions) => list_chosen(
+            alloc,
+            text,
+            compiled,
+            range,
+            steps,
+            limit,
+            memory,
+            options,
+            conditions.as_slice(),
+            out,
+            teller,
+        ),
+        Err(status) => status,
+    }
+}
+
+/// Lists the outcomes of a program that meet conditions, if its globals have the names in them.
+fn list_chosen<A: Allocator + Copy, W: Write, E: Write>(
+    alloc: A,
+    text: &str,
+    compiled: &Compiled<A>,
+    range: ThreadRange,
+    steps: u64,
+    limit: u32,
+    memory: u64,
+    options: &ListOptions,
+    conditions: &[Condition<A>],
+    out: &mut W,
+    teller: &mut Teller<'_, E>,
+) -> u8
+    requires source { IsSourceOf text.now (source_of compiled.now.accepted.safe.typed.unit) }
+    requires code { IsCodeOf (program_of compiled.now.accepted.safe.typed.unit) compiled.now.code }
+    requires conditions { AreConditions (conditions_in options.now) (map condition_of conditions.now) }
+    ensures { PrintsInTurn 4 (λ n s o w. PrintsOutcomes n options.now text.now s o w)
+        (λ n list. IsListOfOutcomes n options.now text.now list) (range.last - range.first) range.first result
+        (W.contents out.old) (W.contents out.new) }
+{
+    if let Some(status) = refuse_unknown(conditions, unit_of(&compiled.accepted), teller.err) {
+        return status;
+    }
+    list_in_turn(
+        alloc, text, compiled, range, steps, limit, memory, options, conditions, out, teller,
+    )
 }
 
 /// Lists the outcomes of a program for one number of threads after another.
@@ -63,18 +137,22 @@ fn list_in_turn<A: Allocator + Copy, W: Write, E: Write>(
     steps: u64,
     limit: u32,
     memory: u64,
+    options: &ListOptions,
+    conditions: &[Condition<A>],
     out: &mut W,
     teller: &mut Teller<'_, E>,
 ) -> u8
     requires source { IsSourceOf text.now (source_of compiled.now.accepted.safe.typed.unit) }
     requires code { IsCodeOf (program_of compiled.now.accepted.safe.typed.unit) compiled.now.code }
-    ensures { PrintsInTurn 4 (λ n s o w. PrintsOutcomes n text.now s o w) (λ n list. IsListOfOutcomes n text.now list)
-        (range.last - range.first) range.first result (W.contents out.old) (W.contents out.new) }
+    requires conditions { AreConditions (conditions_in options.now) (map condition_of conditions.now) }
+    ensures { PrintsInTurn 4 (λ n s o w. PrintsOutcomes n options.now text.now s o w)
+        (λ n list. IsListOfOutcomes n options.now text.now list) (range.last - range.first) range.first result
+        (W.contents out.old) (W.contents out.new) }
 {
     let mut threads = range.first;
     'numbers: while threads < range.last {
         let status = list_of_threads(
-            alloc, text, compiled, threads, steps, limit, memory, out, teller,
+            alloc, text, compiled, threads, steps, limit, memory, options, conditions, out, teller,
         );
         if status != ENDED {
             return status;
@@ -82,7 +160,7 @@ fn list_in_turn<A: Allocator + Copy, W: Write, E: Write>(
         threads += 1;
     }
     list_of_threads(
-        alloc, text, compiled, threads, steps, limit, memory, out, teller,
+        alloc, text, compiled, threads, steps, limit, memory, options, conditions, out, teller,
     )
 }
 
@@ -95,41 +173,56 @@ fn list_of_threads<A: Allocator + Copy, W: Write, E: Write>(
     steps: u64,
     limit: u32,
     memory: u64,
+    options: &ListOptions,
+    conditions: &[Condition<A>],
     out: &mut W,
     teller: &mut Teller<'_, E>,
 ) -> u8
     requires source { IsSourceOf text.now (source_of compiled.now.accepted.safe.typed.unit) }
     requires code { IsCodeOf (program_of compiled.now.accepted.safe.typed.unit) compiled.now.code }
-    ensures { Serves 4 (PrintsOutcomes threads text.now) ⊥ (WritesPart (IsListOfOutcomes threads text.now)) result
-        (W.contents out.old) (W.contents out.new) }
+    requires conditions { AreConditions (conditions_in options.now) (map condition_of conditions.now) }
+    ensures { Serves 4 (PrintsOutcomes threads options.now text.now) ⊥
+        (WritesPart (IsListOfOutcomes threads options.now text.now)) result (W.contents out.old)
+        (W.contents out.new) }
 {
     match outcomes_in(alloc, compiled, threads, steps, limit, memory, teller) {
         Ok(found) => {
-            let status = print_outcomes(alloc, &found, threads, out, teller.err);
-            tell_list(&found, threads, status, teller);
-            tell_listed_ends(alloc, text, threads, &found, teller);
-            tell_listed_traces(alloc, text, compiled, threads, &found, teller);
+            let is_summary = options.summary;
+            let status = print_outcomes(
+                alloc, &found, threads, is_summary, conditions, out, teller.err,
+            );
+            tell_list(&found, options, conditions, threads, status, teller);
+            tell_summary(&found, options, conditions, teller);
+            tell_stats(text, &found.stats, teller);
+            tell_listed_ends(alloc, text, threads, &found, conditions, teller);
+            tell_listed_traces(alloc, text, compiled, threads, &found, conditions, teller);
             status
         }
         Err(fault) => teller.refuse_order(fault),
     }
 }
 
-/// Prints a list of outcomes, and returns the exit status.
+/// Prints a list of the outcomes that meet conditions, or a summary, and returns the exit status.
 fn print_outcomes<A: Allocator + Copy, W: Write, E: Write>(
     alloc: A,
     found: &OutcomesFound<A>,
     threads: u32,
+    is_summary: bool,
+    conditions: &[Condition<A>],
     out: &mut W,
     err: &mut E,
 ) -> u8
     ensures { Serves 4
         (λ s o n. s ≢ 4 → (found.now.end ≡ Whole) × (map reported_of found.now.stuck.items ≡ [])
-        × (s ≡ outcomes_status (map reported_of found.now.outcomes.items)) × Appends o n (list_of found.now threads)) ⊥
-        (WritesPart (λ written. written ≡ list_of found.now threads)) result (W.contents out.old) (W.contents out.new) }
+        × (s ≡ outcomes_status (map reported_of found.now.outcomes.items))
+        × Appends o n (chosen_of is_summary (map condition_of conditions.now) found.now threads)) ⊥
+        (WritesPart (λ written. written ≡ chosen_of is_summary (map condition_of conditions.now) found.now threads)) result
+        (W.contents out.old) (W.contents out.new) }
 {
-    match list_text(
+    match outcomes_text(
         alloc,
+        is_summary,
+        conditions,
         found.outcomes.as_slice(),
         found.stuck.as_slice(),
         found.states,

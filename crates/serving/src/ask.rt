@@ -24,6 +24,7 @@ use crate::program::{Compiled, compile, unit_of};
 use crate::properties::{Extent, PropertiesFound, properties_in};
 use crate::request::bytes_of_memory;
 use crate::results::tell_answers;
+use crate::stats::tell_stats;
 use crate::tell::{Teller, cannot_write, out_of_memory};
 use command::{Questions, ThreadRange};
 use messages::write_shown;
@@ -217,6 +218,7 @@ fn ask_names<A: Allocator + Copy, W: Write, E: Write>(
     if let Some(status) = refuse_names(alloc, compiled, "final", last, teller.err) {
         return status;
     }
+    teller.show_stats(questions.stats);
     match properties_in(
         alloc,
         compiled,
@@ -230,6 +232,7 @@ fn ask_names<A: Allocator + Copy, W: Write, E: Write>(
             let status = print_found(alloc, &found, threads, out, teller.err);
             let accepted = &compiled.accepted;
             tell_answers(text, unit_of(accepted), &found, threads, status, teller);
+            tell_stats(text, &found.stats, teller);
             tell_asked_ends(alloc, text, accepted, threads, &found, teller);
             let wanted = questions.traces;
             tell_asked_traces(alloc, text, compiled, threads, &found, wanted, teller);

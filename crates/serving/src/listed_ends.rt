@@ -8,8 +8,9 @@ use crate::reasons::Reason;
 use crate::source::order_accepted;
 use crate::tell::Teller;
 use crate::walked::OutcomesFound;
+use conditions::Condition;
 use lex::token::Span;
-use report::{End, Finding, Property, ReportedOrder, ThreadShown, WalkEnd};
+use report::{End, Finding, Property, ReportedOrder, ThreadShown, WalkEnd, is_chosen};
 use separation::Accepted;
 use std::alloc::Allocator;
 use std::io::Write;
@@ -22,6 +23,7 @@ pub(crate) fn tell_listed_ends<A: Allocator + Copy, E: Write>(
     text: &str,
     threads: u32,
     found: &OutcomesFound<A>,
+    conditions: &[Condition<A>],
     teller: &mut Teller<'_, E>,
 ) {
     if !teller.detail.lines {
@@ -31,10 +33,17 @@ pub(crate) fn tell_listed_ends<A: Allocator + Copy, E: Write>(
         let mut shown = Vec::new(alloc);
         let (outcomes, stuck) = (found.outcomes.as_slice(), found.stuck.as_slice());
         tell_orders(
-            alloc, text, &accepted, threads, outcomes, &mut shown, teller.err,
+            alloc, text, &accepted, threads, outcomes, conditions, &mut shown, teller.err,
         );
         tell_orders(
-            alloc, text, &accepted, threads, stuck, &mut shown, teller.err,
+            alloc,
+            text,
+            &accepted,
+            threads,
+            stuck,
+            &[],
+            &mut shown,
+            teller.err,
         );
         tell_reason(alloc, text, &accepted, threads, &found.reason, teller.err);
     }
@@ -57,7 +66,14 @@ pub(crate) fn tell_asked_ends<A: Allocator + Copy, E: Write>(
     let mut shown = Vec::new(alloc);
     let stuck = found.stuck.as_slice();
     tell_orders(
-        alloc, text, accepted, threads, stuck, &mut shown, teller.err,
+        alloc,
+        text,
+        accepted,
+        threads,
+        stuck,
+        &[],
+        &mut shown,
+        teller.err,
     );
     if found.is_answered {
         let _ = writeln!(
@@ -152,18 +168,19 @@ pub(crate) fn tell_stop<E: Write>(end: WalkEnd, err: &mut E) {
     let _ = writeln!(err, "txc: {words}");
 }
 
-/// Reports for each of these orders where its threads trapped or wait.
+/// Reports for each of these orders whose report meets conditions where its threads trapped or wait.
 fn tell_orders<A: Allocator + Copy, E: Write>(
     alloc: A,
     text: &str,
     accepted: &Accepted<A>,
     threads: u32,
     orders: &[ReportedOrder<A>],
+    conditions: &[Condition<A>],
     shown: &mut Vec<Span, A>,
     err: &mut E,
 ) {
     'orders: for one in orders {
-        if !have_all_ended(one.shown.threads.as_slice()) {
+        if !have_all_ended(one.shown.threads.as_slice()) && is_chosen(conditions, &one.shown) {
             tell_order(alloc, text, accepted, threads, one, shown, err);
         }
     }

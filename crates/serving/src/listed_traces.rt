@@ -7,7 +7,8 @@ use crate::properties::PropertiesFound;
 use crate::tell::Teller;
 use crate::trace::tell_trace;
 use crate::walked::OutcomesFound;
-use report::{Finding, ReportedOrder};
+use conditions::Condition;
+use report::{Finding, ReportedOrder, is_chosen};
 use std::alloc::Allocator;
 use std::io::Write;
 
@@ -25,17 +26,18 @@ fn tell_first<A: Allocator + Copy, E: Write>(
     }
 }
 
-/// Reports the trace of the first of these outcomes in which a thread traps.
+/// Reports the trace of the first of these outcomes in which a thread traps and which meets conditions.
 fn tell_first_trapped<A: Allocator + Copy, E: Write>(
     alloc: A,
     text: &str,
     compiled: &Compiled<A>,
     threads: u32,
     outcomes: &[ReportedOrder<A>],
+    conditions: &[Condition<A>],
     err: &mut E,
 ) {
     'outcomes: for one in outcomes {
-        if has_trapped(one.shown.threads.as_slice()) {
+        if has_trapped(one.shown.threads.as_slice()) && is_chosen(conditions, &one.shown) {
             tell_trace(alloc, text, compiled, threads, one, None, err);
             return;
         }
@@ -50,13 +52,16 @@ pub(crate) fn tell_listed_traces<A: Allocator + Copy, E: Write>(
     compiled: &Compiled<A>,
     threads: u32,
     found: &OutcomesFound<A>,
+    conditions: &[Condition<A>],
     teller: &mut Teller<'_, E>,
 ) {
     if !teller.detail.traces {
         return;
     }
     let (outcomes, stuck) = (found.outcomes.as_slice(), found.stuck.as_slice());
-    tell_first_trapped(alloc, text, compiled, threads, outcomes, teller.err);
+    tell_first_trapped(
+        alloc, text, compiled, threads, outcomes, conditions, teller.err,
+    );
     tell_first(alloc, text, compiled, threads, stuck, teller.err);
 }
 

@@ -22,6 +22,8 @@ pub(crate) struct ProgressLine<'e, E: Write> {
     is_wanted: bool,
     /// Whether the reason is reported if a search stops.
     explains: bool,
+    /// Whether counts of the search are reported.
+    counts: bool,
     /// Whether a line is shown.
     is_shown: bool,
     states: usize,
@@ -51,6 +53,7 @@ impl<'e, E: Write> ProgressLine<'e, E> {
             err,
             is_wanted: detail.progress,
             explains: detail.lines,
+            counts: detail.stats,
             is_shown: false,
             states: 0,
             expanded: 0,
@@ -77,6 +80,16 @@ impl<'e, E: Write> ProgressLine<'e, E> {
     /// Whether the reason is reported if a search stops.
     pub(crate) fn explains(&self) -> bool {
         self.explains
+    }
+
+    /// Whether counts of the search are reported.
+    pub(crate) fn counts(&self) -> bool {
+        self.counts
+    }
+
+    /// The number of bytes that the states take.
+    pub(crate) fn held(&self) -> u64 {
+        self.held
     }
 
     /// The resource that ran out, if any: memory or time.

@@ -188,10 +188,11 @@ fn work_alone<A: Allocator + Copy, S: Read + Drop, W: Write, E: Write>(
             steps,
             limit,
             memory,
-            traces,
+            options,
             ..
         } => {
-            teller.show_traces(*traces);
+            teller.show_traces(options.traces);
+            teller.show_stats(options.stats);
             all_outcomes(
                 alloc,
                 text,
@@ -199,6 +200,7 @@ fn work_alone<A: Allocator + Copy, S: Read + Drop, W: Write, E: Write>(
                 u64::from(*steps),
                 *limit,
                 bytes_of_memory(*memory),
+                options,
                 out,
                 teller,
             )

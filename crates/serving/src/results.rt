@@ -5,10 +5,11 @@ use crate::listed_ends::push_numbers;
 use crate::properties::PropertiesFound;
 use crate::tell::Teller;
 use crate::walked::OutcomesFound;
-use command::Format;
+use command::{Format, ListOptions};
+use conditions::Condition;
 use lex::place;
 use messages::write_quoted;
-use report::{End, Finding, Property, ReportedOrder, ThreadShown, WalkEnd};
+use report::{End, Finding, Property, ReportedOrder, ThreadShown, WalkEnd, is_chosen};
 use std::alloc::Allocator;
 use std::io::Write;
 use std::str;
@@ -18,6 +19,8 @@ use syntax::tree::{Item, Unit};
 /// Reports a list of outcomes and stuck orders.
 pub(crate) fn tell_list<A: Allocator, E: Write>(
     found: &OutcomesFound<A>,
+    options: &ListOptions,
+    conditions: &[Condition<A>],
     threads: u32,
     status: u8,
     teller: &mut Teller<'_, E>,
@@ -25,8 +28,10 @@ pub(crate) fn tell_list<A: Allocator, E: Write>(
     let (outcomes, stuck) = (found.outcomes.as_slice(), found.stuck.as_slice());
     match teller.detail.format {
         Format::Json => {
-            put_orders("outcome", outcomes, teller.err);
-            put_orders("stuck", stuck, teller.err);
+            if !options.summary {
+                put_orders("outcome", outcomes, conditions, teller.err);
+            }
+            put_orders("stuck", stuck, &[], teller.err);
             let _ = write!(
                 teller.err,
                 "{{\"result\":\"verdict\",\"status\":{status},\"threads\":{threads},\"outcomes\":{},\"stuck\":{},\"states\":{},\"stopped\":",
@@ -58,7 +63,7 @@ pub(crate) fn tell_answers<A: Allocator, E: Write>(
             'properties: for one in found.properties.as_slice() {
                 put_property(one, teller.err);
             }
-            put_orders("stuck", stuck, teller.err);
+            put_orders("stuck", stuck, &[], teller.err);
             let _ = write!(
                 teller.err,
                 "{{\"result\":\"verdict\",\"status\":{status},\"threads\":{threads},\"stuck\":{},\"stopped\":",
@@ -89,12 +94,19 @@ fn put_stop<E: Write>(end: WalkEnd, is_answered: bool, err: &mut E) {
     let _ = err.write_all(words);
 }
 
-/// Writes an object for each order.
-fn put_orders<A: Allocator, E: Write>(kind: &str, orders: &[ReportedOrder<A>], err: &mut E) {
+/// Writes an object for each order whose report meets these conditions.
+fn put_orders<A: Allocator, E: Write>(
+    kind: &str,
+    orders: &[ReportedOrder<A>],
+    conditions: &[Condition<A>],
+    err: &mut E,
+) {
     'orders: for one in orders {
-        let _ = write!(err, "{{\"result\":\"{kind}\"");
-        put_report(one, err);
-        let _ = err.write_all(b"}\n");
+        if is_chosen(conditions, &one.shown) {
+            let _ = write!(err, "{{\"result\":\"{kind}\"");
+            put_report(one, err);
+            let _ = err.write_all(b"}\n");
+        }
     }
 }
 

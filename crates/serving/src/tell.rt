@@ -37,6 +37,8 @@ pub struct Detail<'a> {
     pub(crate) further: bool,
     /// Whether traces of a search's first findings are shown.
     pub(crate) traces: bool,
+    /// Whether counts of a search are reported.
+    pub(crate) stats: bool,
 }
 
 impl<'a> Detail<'a> {
@@ -63,6 +65,7 @@ impl<'a> Detail<'a> {
                 Format::Plain => is_terminal,
                 Format::Short | Format::Json | Format::Github => false,
             },
+            stats: false,
         }
     }
 
@@ -76,6 +79,7 @@ impl<'a> Detail<'a> {
             further: self.further,
             progress: self.progress,
             traces: self.traces,
+            stats: self.stats,
         }
     }
 }
@@ -103,6 +107,11 @@ impl<E: Write> Teller<'_, E> {
         if are_wanted {
             self.detail.traces = true;
         }
+    }
+
+    /// Reports counts of a search if they are wanted.
+    pub(crate) fn show_stats(&mut self, are_wanted: bool) {
+        self.detail.stats = are_wanted;
     }
 
     /// Reports why a source is refused.

@@ -618,6 +618,20 @@ fn third_transcripts() -> &'static [Transcript] {
             b"== outcome --order 0,1\n== thread 0: ended\n== thread 1: ended\n== memory\nseats = 0\nsold = 1\n== outcomes: 1, stuck: 0, states: 4, threads: 2\n",
         ),
         (
+            "txc outcomes examples/seats.c --threads 2 --summary",
+            b"// One seat and two buyers, who check and buy in two transactions: the seat can be sold twice.\nint seats = 1, sold;\n\nvoid worker(int self) {\n    int free;\n    __transaction_atomic { free = seats > 0; }\n    if (free) {\n        __transaction_atomic {\n            seats = seats - 1;\n            sold = sold + 1;\n        }\n    }\n}\n",
+            b"",
+            b"",
+            b"== outcomes: 2, stuck: 0, states: 10, threads: 2\ntxc: seats = -1 to 0\ntxc: sold = 1 to 2\n",
+        ),
+        (
+            "txc outcomes examples/seats.c --threads 2 --where sold==2",
+            b"// One seat and two buyers, who check and buy in two transactions: the seat can be sold twice.\nint seats = 1, sold;\n\nvoid worker(int self) {\n    int free;\n    __transaction_atomic { free = seats > 0; }\n    if (free) {\n        __transaction_atomic {\n            seats = seats - 1;\n            sold = sold + 1;\n        }\n    }\n}\n",
+            b"",
+            b"",
+            b"== outcome --order 0,1,1,0\n== thread 0: ended\n== thread 1: ended\n== memory\nseats = -1\nsold = 2\n== outcomes: 1 of 2, stuck: 0, states: 10, threads: 2\n",
+        ),
+        (
             "txc outcomes examples/ticket.c --threads 2",
             b"// A ticket lock made of transactions: each thread takes a number, waits in a loop until it is served, and enters twice.\n// `most` is the largest number of threads that were inside at one time.\nint next, serving, inside, most, entered;\n\nvoid worker(int self) {\n    int i, mine, mine_now;\n    for (i = 0; i < 2; i++) {\n        __transaction_atomic { mine = next; next = next + 1; }\n        do {\n            __transaction_atomic { mine_now = serving == mine; }\n        } while (!mine_now);\n        __transaction_atomic { inside = inside + 1; if (inside > most) most = inside; }\n        __transaction_atomic { inside = inside - 1; entered = entered + 1; serving = serving + 1; }\n    }\n}\n",
             b"",
@@ -645,6 +659,12 @@ fn third_transcripts() -> &'static [Transcript] {
             b"// One seat and two buyers, who check and buy in one transaction: the seat is sold once.\nint seats = 1, sold;\n\nvoid worker(int self) {\n    __transaction_atomic {\n        if (seats > 0) {\n            seats = seats - 1;\n            sold = sold + 1;\n        }\n    }\n}\n",
             b"== not an outcome of examples/seats_mended.c --order 0,1,1,0\n== thread 0: ended\n== thread 1: ended\n== memory\nseats = -1\nsold = 2\n",
         ),
+    ];
+    &ROWS
+}
+
+fn fourth_transcripts() -> &'static [Transcript] {
+    static ROWS: [Transcript; 18] = [
         (
             "txc outcomes examples/seats_mended.c --threads 2 --refines examples/seats.c",
             b"// One seat and two buyers, who check and buy in one transaction: the seat is sold once.\nint seats = 1, sold;\n\nvoid worker(int self) {\n    __transaction_atomic {\n        if (seats > 0) {\n            seats = seats - 1;\n            sold = sold + 1;\n        }\n    }\n}\n",
@@ -659,12 +679,6 @@ fn third_transcripts() -> &'static [Transcript] {
             b"",
             b"== events\n12 0 commit\n19 0 cancel\n28 0 commit\n== thread 0: ended\n== memory\ntrain = 0\nbus = 8\nasked = 2\nby_train = 1\nby_bus = 1\n",
         ),
-    ];
-    &ROWS
-}
-
-fn fourth_transcripts() -> &'static [Transcript] {
-    static ROWS: [Transcript; 18] = [
         (
             "txc replay examples/carts.c --schedule examples/schedules/carts.txt",
             b"// A cart is built as a whole or not at all: if the inner transaction finds too few wheels, one cancel undoes both.\nint frames = 3, wheels = 9, built;\n\nvoid worker(int self) {\n    int i;\n    for (i = 0; i < 3; i++) {\n        __transaction_atomic [[outer]] {\n            frames = frames - 1;\n            __transaction_atomic {\n                wheels = wheels - 4;\n                if (wheels < 0) __transaction_cancel [[outer]];\n            }\n            built = built + 1;\n        }\n    }\n}\n",
@@ -777,6 +791,12 @@ fn fourth_transcripts() -> &'static [Transcript] {
             b"",
             b"== thread 0: ended\n== thread 1: ended\n== memory\nx = 6\n",
         ),
+    ];
+    &ROWS
+}
+
+fn fifth_transcripts() -> &'static [Transcript] {
+    static ROWS: [Transcript; 18] = [
         (
             "txc run examples/counter.c --counts",
             b"// Each thread adds one, three times. No addition is lost, however the threads interleave.\nint x;\n\nvoid worker(int self) {\n    int i;\n    for (i = 0; i < 3; i++) {\n        __transaction_atomic { x = x + 1; }\n    }\n}\n",
@@ -791,12 +811,6 @@ fn fourth_transcripts() -> &'static [Transcript] {
             b"",
             b"== thread 0: trap 1\n== memory\ntotal = 2147483647\nentries = 5\ntxc: thread 0: trap 1 at 7:17: 2147483647 + 1 is out of the range of int\n        total = total + 1;\n                ^^^^^^^^^\n",
         ),
-    ];
-    &ROWS
-}
-
-fn fifth_transcripts() -> &'static [Transcript] {
-    static ROWS: [Transcript; 18] = [
         (
             "txc source examples/booking.c --threads 2 --order 1,0,0,1",
             b"// A cancel undoes the innermost transaction alone: a thread that finds no seat in the train takes one in the bus, and\n// what the outer transaction wrote before is kept. Each thread books twice.\nint train = 1, bus = 9, asked, by_train, by_bus;\n\nvoid worker(int self) {\n    int i;\n    for (i = 0; i < 2; i++) {\n        __transaction_atomic {\n            int seated = 0;\n            asked = asked + 1;\n            __transaction_atomic {\n                train = train - 1;\n                by_train = by_train + 1;\n                if (train < 0) __transaction_cancel;\n                seated = 1;\n            }\n            if (!seated) {\n                bus = bus - 1;\n                by_bus = by_bus + 1;\n            }\n        }\n    }\n}\n",
@@ -909,6 +923,12 @@ fn fifth_transcripts() -> &'static [Transcript] {
             b"",
             b"turn thread at     seats sold\n                       1    0\n   1      0 6:5        1    .   free = seats > 0\n   2      1 6:5        1    .   free = seats > 0\n   3      1 8:9       >0   >1   seats = seats - 1; sold = sold + 1  ended\n   4      0 8:9      >-1   >2   seats = seats - 1; sold = sold + 1  ended\nthread 0: ended\nthread 1: ended\n",
         ),
+    ];
+    &ROWS
+}
+
+fn sixth_transcripts() -> &'static [Transcript] {
+    static ROWS: [Transcript; 2] = [
         (
             "txc trace examples/seats.c --threads 2 --order 0,1 --full",
             b"// One seat and two buyers, who check and buy in two transactions: the seat can be sold twice.\nint seats = 1, sold;\n\nvoid worker(int self) {\n    int free;\n    __transaction_atomic { free = seats > 0; }\n    if (free) {\n        __transaction_atomic {\n            seats = seats - 1;\n            sold = sold + 1;\n        }\n    }\n}\n",
@@ -1008,6 +1028,14 @@ fn fourth_transcripts_show_what_they_should(rt: HostRuntime) {
 fn fifth_transcripts_show_what_they_should(rt: HostRuntime) {
     assert_eq!(rt;
         wrong_transcript(&rt, rt.alloc(), fifth_transcripts()),
+        None
+    );
+}
+
+#[test]
+fn sixth_transcripts_show_what_they_should(rt: HostRuntime) {
+    assert_eq!(rt;
+        wrong_transcript(&rt, rt.alloc(), sixth_transcripts()),
         None
     );
 }

@@ -36,6 +36,8 @@ mod refusals;
 #[cfg(test)]
 mod served;
 #[cfg(test)]
+mod stats;
+#[cfg(test)]
 mod tested;
 #[cfg(test)]
 mod timed;

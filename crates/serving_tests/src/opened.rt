@@ -95,7 +95,7 @@ pub(crate) const REFUSED: Found = Err(ErrorKind::OutOfMemory);
 const OUT_OF_MEMORY: ServeResult<'static> = (4, b"", b"txc: out of memory\n");
 
 fn rows() -> &'static [Row] {
-    static ROWS: [Row; 34] = [
+    static ROWS: [Row; 47] = [
         // invalid words open no file
         (
             "txc run a.c --threads 65",
@@ -292,6 +292,145 @@ fn rows() -> &'static [Row] {
                 1,
                 b"",
                 b"::error file=a.c,line=1,col=7,title=fault 28::no worker\n",
+            ),
+        ),
+        // outcomes that meet conditions
+        (
+            "txc outcomes a.c --threads 1 --where x>0 --where x<=1",
+            Ok(ADDS),
+            NONE,
+            false,
+            (
+                0,
+                b"== outcome --order 0\n== thread 0: ended\n== memory\nx = 1\n== outcomes: 1 of 1, stuck: 0, states: 2, threads: 1\n",
+                b"",
+            ),
+        ),
+        (
+            "txc outcomes a.c --threads 1 --where x>0 --where x!=1 --format json",
+            Ok(ADDS),
+            NONE,
+            false,
+            (
+                0,
+                b"== outcomes: 0 of 1, stuck: 0, states: 2, threads: 1\n",
+                b"{\"result\":\"verdict\",\"status\":0,\"threads\":1,\"outcomes\":1,\"stuck\":0,\"states\":2,\"stopped\":null}\n",
+            ),
+        ),
+        (
+            "txc outcomes a.c --threads 1 --where a[0]==-1 --where a[1]>=1",
+            Ok(b"int a[2] = {-1}; void worker(int self) { __transaction_atomic { a[1] = 1; } }"),
+            NONE,
+            false,
+            (
+                0,
+                b"== outcome --order 0\n== thread 0: ended\n== memory\na = -1 1\n== outcomes: 1 of 1, stuck: 0, states: 2, threads: 1\n",
+                b"",
+            ),
+        ),
+        (
+            "txc outcomes a.c --threads 1 --where a[1]<0",
+            Ok(b"int a[2] = {-1}; void worker(int self) { __transaction_atomic { a[1] = 1; } }"),
+            NONE,
+            false,
+            (
+                0,
+                b"== outcomes: 0 of 1, stuck: 0, states: 2, threads: 1\n",
+                b"",
+            ),
+        ),
+        // a summary
+        (
+            "txc outcomes a.c --threads 1 --summary",
+            Ok(b"int x, a[2] = {-1}; void worker(int self) { __transaction_atomic { a[1] = 1; } }"),
+            NONE,
+            false,
+            (
+                0,
+                b"== outcomes: 1, stuck: 0, states: 2, threads: 1\n",
+                b"txc: x = 0 in all 1\ntxc: a[0] = -1 in all 1\ntxc: a[1] = 1 in all 1\n",
+            ),
+        ),
+        (
+            "txc outcomes a.c --threads 1 --summary --where x==1",
+            Ok(ADDS),
+            NONE,
+            false,
+            (
+                0,
+                b"== outcomes: 1 of 1, stuck: 0, states: 2, threads: 1\n",
+                b"txc: x = 1 in all 1\n",
+            ),
+        ),
+        (
+            "txc outcomes a.c --threads 1 --summary --format json",
+            Ok(ADDS),
+            NONE,
+            false,
+            (
+                0,
+                b"== outcomes: 1, stuck: 0, states: 2, threads: 1\n",
+                b"{\"result\":\"verdict\",\"status\":0,\"threads\":1,\"outcomes\":1,\"stuck\":0,\"states\":2,\"stopped\":null}\n{\"result\":\"values\",\"name\":\"x\",\"cell\":0,\"least\":1,\"greatest\":1}\n",
+            ),
+        ),
+        // the status is that of all outcomes
+        (
+            "txc outcomes a.c --threads 1 --where x==1",
+            Ok(b"int x; void worker(int self) { __transaction_atomic { x = 1 / x; } }"),
+            NONE,
+            false,
+            (
+                3,
+                b"== outcomes: 0 of 1, stuck: 0, states: 2, threads: 1\n",
+                b"",
+            ),
+        ),
+        // conditions on no number of the program
+        (
+            "txc outcomes a.c --where x=1",
+            Ok(ADDS),
+            NONE,
+            false,
+            (
+                2,
+                b"",
+                b"txc: usage: --where x=1: write NAME == NUMBER or NAME[INDEX] == NUMBER, with ==, !=, <, <=, > or >=\n",
+            ),
+        ),
+        (
+            "txc outcomes a.c --where y==1",
+            Ok(ADDS),
+            NONE,
+            false,
+            (2, b"", b"txc: usage: --where y: no global has this name\n"),
+        ),
+        (
+            "txc outcomes a.c --where x[0]==1",
+            Ok(ADDS),
+            NONE,
+            false,
+            (2, b"", b"txc: usage: --where x: this global is no array\n"),
+        ),
+        (
+            "txc outcomes a.c --where a==1",
+            Ok(b"int a[2]; void worker(int self) {}"),
+            NONE,
+            false,
+            (
+                2,
+                b"",
+                b"txc: usage: --where a: an array needs an index, as in a[0] == 1\n",
+            ),
+        ),
+        (
+            "txc outcomes a.c --where a[2]==1",
+            Ok(b"int a[2]; void worker(int self) {}"),
+            NONE,
+            false,
+            (
+                2,
+                b"",
+                b"txc: usage: --where a: the array has no element at this index\n",
             ),
         ),
         // only line ends differ

@@ -1,11 +1,13 @@
 -- The comparison of two lists of outcomes.
-use Rattle.std.specs.Prelude.{◌≡◌, ℕ, List, [], All, Contains, length, map}
+use Rattle.std.specs.Prelude.{◌≡◌, ℕ, Bool, List, [], All, Contains, length, map}
 use Rattle.report.specs.declared.outcome_list.WalkEnd.{WalkEnd}
 use Rattle.report.specs.declared.outcome_list.WalkEnd.TheVariants.{Whole}
 use Rattle.report.specs.OutcomeList.{ReportedOrder, list_text, reports}
 use Rattle.refinements.specs.ShownBy.{IsShownAmong}
 use Rattle.refinements.specs.Told.{beyond_text, refined_text}
+use Rattle.report.specs.Chosen.{outcomes_text}
 use Rattle.report.specs.Views.{reported_of}
+use Rattle.conditions.specs.Conditions.{CellCondition}
 use Rattle.serving.specs.declared.walked.OutcomesFound.{OutcomesFound}
 
 module _ (name : List ℕ) (threads : ℕ) (end : WalkEnd) (outcomes stuck : List ReportedOrder) (others_end : WalkEnd)
@@ -30,3 +32,10 @@ module _ (name : List ℕ) (threads : ℕ) (end : WalkEnd) (outcomes stuck : Lis
 abbrev pub list_of : {A : Type 0} → OutcomesFound A → (threads : ℕ) → List ℕ
 list_of found threads =
     list_text (map reported_of found.outcomes.items) (map reported_of found.stuck.items) found.states threads found.end
+
+-- the text of a list of those of them that meet conditions, or of a summary
+abbrev pub chosen_of : {A : Type 0} → (is_summary : Bool) → List CellCondition → OutcomesFound A → (threads : ℕ) →
+    List ℕ
+chosen_of is_summary conditions found threads =
+    outcomes_text is_summary conditions (map reported_of found.outcomes.items) (map reported_of found.stuck.items)
+    found.states threads found.end

@@ -5,4 +5,7 @@ returns c =
     let one = c.with-command.ensures _ _ c.outcome_states-command.ensures c.text-always.ensures.rule c.text-always.ensures.global in
     let two = c.with-command-2.ensures _ _ one c.text-last.ensures.rule c.text-last.ensures.global in
     let three = c.with-command-3.ensures _ _ two c.flag-keep_going.ensures.rule c.flag-keep_going.ensures.global in
-    c.with.ensures _ _ three c.flag-trace.ensures.rule c.flag-trace.ensures.global
+    let four = c.with-command-4.ensures _ _ three c.flag-trace.ensures.rule c.flag-trace.ensures.global in
+    let five = c.with-command-5.ensures _ _ four c.flag-stats.ensures.rule c.flag-stats.ensures.global in
+    let six = c.with-command-6.ensures _ _ five c.repeated-conditions.ensures.rule c.repeated-conditions.ensures.global in
+    c.with.ensures _ _ six c.flag-summary.ensures.rule c.flag-summary.ensures.global

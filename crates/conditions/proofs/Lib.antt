@@ -1,0 +1,2 @@
+-- one condition more
+mod Reading
