@@ -17,7 +17,17 @@ pub fn warning_words(name: &str) -> WarningWords {
         "endless-wait" => (
             "no other thread can end this wait",
             "",
-            "a transaction sees no write of another thread: wait outside it, as in while (!__transaction_atomic (ready)) ;",
+            "no thread writes what would end it",
+        ),
+        "transaction-wait" => (
+            "a transaction waits here for another thread",
+            "the wait is at ",
+            "it sees no write of another thread: wait outside it, as in while (!__transaction_atomic (ready)) ;",
+        ),
+        "kept-lock" => (
+            "no thread gives this lock back",
+            "it is taken at ",
+            "a thread that takes it next waits for ever",
         ),
         "undone-write" => (
             "a cancel always undoes this write",
@@ -48,6 +58,11 @@ pub fn warning_words(name: &str) -> WarningWords {
             "an index outside its array",
             "",
             "a thread that gets here ends with trap 3: an array of N cells has the indices 0 to N - 1",
+        ),
+        "own-index" => (
+            "an index that is too large for some threads",
+            "code for more threads is at ",
+            "a thread whose number is not below the length of the array ends here with trap 3",
         ),
         "shift-outside" => (
             "a shift count out of range",

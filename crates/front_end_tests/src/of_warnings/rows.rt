@@ -12,7 +12,7 @@ type Row = (&'static str, &'static str);
 
 /// The rows stand in a function, so that no proof but its own looks at them.
 fn rows() -> &'static [Row] {
-    static ROWS: [Row; 59] = [
+    static ROWS: [Row; 107] = [
         // waits
         (
             "int x; void worker(int self) { __transaction_atomic { while (x == 0) ; } }",
@@ -64,13 +64,110 @@ fn rows() -> &'static [Row] {
             "void worker(int self) { __transaction_atomic { while (self) ; } }",
             "",
         ),
-        // a transaction each time, also where a function is called in none
+        // waits for another thread in a transaction, which sees none
         (
-            "int x; void worker(int self) { while (__transaction_atomic (x) == 0) ; }",
+            "int x; void worker(int self) { if (self) __transaction_atomic { while (x == 0) ; } __transaction_atomic { x = 1; } }",
+            "transaction-wait 1:72\n",
+        ),
+        (
+            "int x; int ready(void) { return x; } void worker(int self) { if (self) __transaction_atomic { while (!ready()) ; } __transaction_atomic { x = 1; } }",
+            "transaction-wait 1:102\n",
+        ),
+        (
+            "int x; void worker(int self) { if (self) __transaction_atomic { int ok; do { ok = x > 2; } while (!ok); } __transaction_atomic { x = 3; } }",
+            "transaction-wait 1:99\n",
+        ),
+        (
+            "int x; void wait(void) { while (x == 0) ; } void worker(int self) { if (self) __transaction_atomic { wait(); } __transaction_atomic { x = 1; } }",
+            "transaction-wait 1:33\n",
+        ),
+        (
+            "int x; void wait(void) { while (!__transaction_atomic (x)) ; } void worker(int self) { wait(); __transaction_atomic { wait(); } __transaction_atomic { x = 1; } }",
+            "transaction-wait 1:119 1:33\n",
+        ),
+        (
+            "int x; void wait(void) { while (!__transaction_atomic (x)) ; } void both(void) { wait(); wait(); } void worker(int self) { wait(); both(); __transaction_atomic { both(); } __transaction_atomic { x = 1; } }",
+            "transaction-wait 1:163 1:33\n",
+        ),
+        (
+            "int x; void take(void) { int ok = 0; while (!ok) { __transaction_atomic { ok = !x; if (ok) x = 1; } } } void worker(int self) { take(); __transaction_atomic { x = 0; } __transaction_atomic { take(); } }",
+            "transaction-wait 1:192 1:45\n",
+        ),
+        // which the loop ends itself, also by a call
+        (
+            "int x; int next(void) { x++; return x > 3; } void worker(int self) { __transaction_atomic { while (!next()) ; } __transaction_atomic { x = 0; } }",
             "",
         ),
         (
-            "int x; void wait(void) { while (__transaction_atomic (x) == 0) ; } void worker(int self) { wait(); }",
+            "int x; void add(void) { x++; } void more(void) { add(); } void worker(int self) { __transaction_atomic { while (x < 3) more(); } __transaction_atomic { x = 0; } }",
+            "",
+        ),
+        // waits for what no thread writes
+        (
+            "int x; void worker(int self) { while (__transaction_atomic (x) == 0) ; }",
+            "endless-wait 1:39\n",
+        ),
+        (
+            "int x; void worker(int self) { while (__transaction_atomic (x) < 3) ; }",
+            "endless-wait 1:39\n",
+        ),
+        (
+            "int x, y; void worker(int self) { __transaction_atomic { x = 0; } while (!__transaction_atomic (x)) ; __transaction_atomic { y = 1; } }",
+            "endless-wait 1:74\n",
+        ),
+        (
+            "int x = 1, y; void worker(int self) { int busy = 1; while (busy) { __transaction_atomic { busy = x != 0; } } __transaction_atomic { y = 1; } }",
+            "endless-wait 1:60\n",
+        ),
+        (
+            "int x; int look(void) { int seen; __transaction_atomic { seen = x; } return seen; } void worker(int self) { while (!look()) ; }",
+            "endless-wait 1:116\n",
+        ),
+        (
+            "int x; int f(int n) { return n ? f(n - 1) : x; } void worker(int self) { __transaction_atomic { while (f(2) == 0) ; } }",
+            "endless-wait 1:104\n",
+        ),
+        (
+            "int x; int odd(int n); int even(int n) { return n ? odd(n - 1) : x; } int odd(int n) { return n ? even(n - 1) : 0; } void worker(int self) { __transaction_atomic { while (even(self) == 0) ; } }",
+            "endless-wait 1:172\n",
+        ),
+        // what some thread writes, or the loop counts
+        (
+            "int x; void set(int to) { __transaction_atomic { x = to; } } void worker(int self) { if (self) while (!__transaction_atomic (x)) ; else set(1); }",
+            "",
+        ),
+        (
+            "int x; void worker(int self) { int i = 0; while (i < __transaction_atomic (x)) i++; }",
+            "",
+        ),
+        (
+            "int x; int odd(int n); int even(int n) { return n ? odd(n - 1) : x; } int odd(int n) { x = n; return n ? even(n - 1) : 0; } void worker(int self) { __transaction_atomic { while (even(self) == 0) ; } }",
+            "",
+        ),
+        (
+            "int x; int unused(void) { while (!__transaction_atomic (x)) ; return 1; } void worker(int self) { __transaction_atomic { x = 1; } }",
+            "",
+        ),
+        // locks that no thread gives back
+        (
+            "int x, n; void worker(int self) { int mine = 0; while (!mine) { __transaction_atomic { mine = !x; if (mine) x = 1; } } __transaction_atomic { n++; } }",
+            "kept-lock 1:56 1:109\n",
+        ),
+        (
+            "int x, n; int try(void) { int ok; __transaction_atomic { ok = x == 0; if (ok) x = 1; } return ok; } void worker(int self) { while (!try()) ; __transaction_atomic { n++; } }",
+            "kept-lock 1:132 1:79\n",
+        ),
+        (
+            "int x[3], n; void take(int i) { int ok = 0; while (!ok) { __transaction_atomic { ok = !x[i]; x[i] = 1; } } } void worker(int self) { take(self % 3); __transaction_atomic { n++; } }",
+            "kept-lock 1:52 1:94\n",
+        ),
+        // one that is given back, and a flag that is set once
+        (
+            "int x[3], n; void take(int i) { int ok = 0; while (!ok) { __transaction_atomic { ok = !x[i]; if (ok) x[i] = 1; } } } void worker(int self) { take(self % 3); __transaction_atomic { n++; } __transaction_atomic { x[self % 3] = 0; } }",
+            "",
+        ),
+        (
+            "int x; void worker(int self) { int first; __transaction_atomic { first = !x; x = 1; } while (!__transaction_atomic (x)) ; }",
             "",
         ),
         // writes that are undone
@@ -169,6 +266,95 @@ fn rows() -> &'static [Row] {
             "int x; void f(void) { int y; __transaction_atomic { y = x; } __transaction_atomic { x = y + 1; } } void worker(int self) { __transaction_atomic { f(); } }",
             "",
         ),
+        // through calls
+        (
+            "int x; int look(void) { return __transaction_atomic (x); } void set(int to) { __transaction_atomic { x = to; } } void worker(int self) { set(look() + 1); }",
+            "stale-read 1:142 1:102\n",
+        ),
+        (
+            "int x; int look(void) { int y; __transaction_atomic { y = x; } return y > 0; } void buy(void) { __transaction_atomic { x--; } } void worker(int self) { if (look()) buy(); }",
+            "stale-read 1:157 1:120\n",
+        ),
+        (
+            "int x; int look(void) { if (__transaction_atomic (x) > 0) return 1; return 0; } void buy(void) { __transaction_atomic { x--; } } void worker(int self) { int free = look(); if (free) { buy(); } }",
+            "stale-read 1:165 1:121\n",
+        ),
+        (
+            "int x; int look(void) { return x; } void set(int to) { x = to; } void worker(int self) { int y; __transaction_atomic { y = look(); } __transaction_atomic { set(y + 1); } }",
+            "stale-read 1:124 1:56\n",
+        ),
+        (
+            "int x; void set(int to) { __transaction_atomic { x = to; } } void change(int to) { set(to + 1); } void worker(int self) { change(__transaction_atomic (x)); }",
+            "stale-read 1:152 1:50\n",
+        ),
+        (
+            "int x; void down(int n, int to) { if (n) down(n - 1, to); else __transaction_atomic { x = to; } } void worker(int self) { down(3, __transaction_atomic (x)); }",
+            "stale-read 1:153 1:87\n",
+        ),
+        // through calls, in one transaction, checked again, or of an element that was taken
+        (
+            "int x; int look(void) { return x; } void set(int to) { x = to; } void worker(int self) { __transaction_atomic { set(look() + 1); } }",
+            "",
+        ),
+        (
+            "int x; int look(void) { return __transaction_atomic (x); } void buy(void) { __transaction_atomic { if (x > 0) x--; } } void worker(int self) { if (look()) buy(); }",
+            "",
+        ),
+        (
+            "int x; int look(void) { return __transaction_atomic (x); } int may(void) { return x > 0; } void buy(void) { __transaction_atomic { if (may()) x--; } } void worker(int self) { if (look()) buy(); }",
+            "",
+        ),
+        (
+            "int x; int take(void) { int ok; __transaction_atomic { ok = x > 0; if (ok) x--; } return ok; } void give(void) { __transaction_atomic { x++; } } void worker(int self) { if (take()) give(); }",
+            "",
+        ),
+        (
+            "int a[9], n; int pop(void) { int r; __transaction_atomic { n--; r = a[n]; } return r; } void push(int v) { __transaction_atomic { a[n] = v; n++; } } void worker(int self) { push(pop() + 1); }",
+            "",
+        ),
+        // an element that each thread has for itself, and one that others write
+        (
+            "int a[64]; void worker(int self) { int t = __transaction_atomic (a[self]); __transaction_atomic { a[self] = t + 1; } }",
+            "",
+        ),
+        (
+            "int a[64]; void add(int me) { int t = __transaction_atomic (a[me]); __transaction_atomic { a[me] = t + 1; } } void worker(int self) { add(self); add(self); }",
+            "",
+        ),
+        (
+            "int a[64]; void worker(int self) { int t = __transaction_atomic (a[self]); __transaction_atomic { a[self] = t + 1; } __transaction_atomic { a[0] = 0; } }",
+            "stale-read 1:66 1:99\n",
+        ),
+        (
+            "int a[64]; void add(int me) { int t = __transaction_atomic (a[me]); __transaction_atomic { a[me] = t + 1; } } void worker(int self) { add(self); add(1 - self); }",
+            "stale-read 1:61 1:92\n",
+        ),
+        // a wait for what each thread may take
+        (
+            "int x; void worker(int self) { while (!__transaction_atomic (x > 0)) ; __transaction_atomic { x = x - 1; } }",
+            "stale-read 1:39 1:95\n",
+        ),
+        (
+            "int x; void worker(int self) { int mine = 0; while (!mine) { __transaction_atomic { mine = !x; } } __transaction_atomic { x = 1; } __transaction_atomic { x = 0; } }",
+            "stale-read 1:53 1:123\n",
+        ),
+        (
+            "int x; void wait(void) { while (__transaction_atomic (x)) ; } void worker(int self) { while (__transaction_atomic (x)) ; __transaction_atomic { x = 1; } __transaction_atomic { x = 0; } wait(); }",
+            "stale-read 1:94 1:145\n",
+        ),
+        // one that looks again, one of a single thread, and one that another thread ends again
+        (
+            "int x; void worker(int self) { while (!__transaction_atomic (x > 0)) ; __transaction_atomic { if (x > 0) x = x - 1; } }",
+            "",
+        ),
+        (
+            "int x; void take(void) { while (!__transaction_atomic (x)) ; __transaction_atomic { x = 0; } } void worker(int self) { if (self == 0) __transaction_atomic { x = 1; } else take(); }",
+            "",
+        ),
+        (
+            "int x, y; void worker(int self) { while (!__transaction_atomic (x)) ; __transaction_atomic { y = x; } __transaction_atomic { x = 1; } }",
+            "",
+        ),
         // comparisons
         (
             "void worker(int self) { unsigned i; for (i = 3; i >= 0; i--) ; }",
@@ -217,6 +403,23 @@ fn rows() -> &'static [Row] {
         ),
         (
             "int a[4]; void worker(int self) { __transaction_atomic { a[3] = a[self]; } }",
+            "",
+        ),
+        // a thread's own element
+        (
+            "int a[2], b[4]; void worker(int self) { __transaction_atomic { a[self] = b[self]; } }",
+            "own-index 1:64 1:74\n",
+        ),
+        (
+            "int a[2], x; void put(int me) { __transaction_atomic { a[me] = 1; } } void worker(int self) { put(self); if (self == 3) __transaction_atomic { x = 1; } }",
+            "own-index 1:56 1:110\n",
+        ),
+        (
+            "int a[2], x; void put(int me) { if (me < 2) __transaction_atomic { a[me] = 1; } } void worker(int self) { put(self); if (self == 3) __transaction_atomic { x = 1; } }",
+            "",
+        ),
+        (
+            "int a[2], x; void worker(int self) { __transaction_atomic { a[self] = 1; } if (self == 1) __transaction_atomic { x = 1; } }",
             "",
         ),
         (
