@@ -6,9 +6,8 @@
 
 Node runs the script of each page: from every state, the turn of every thread. The memory, output and ends after the turn
 must be those of `txc source` in a shortest order to the state and with this turn, and what the turn reads and writes must
-be that of `txc trace`. The number of states, up to exchanges of threads that begin alike, must be that of `txc outcomes`,
-which must list as many outcomes, and a stuck order if and only if the page has a stuck state. Properties must have the
-values that `txc trace --property` reports.
+be that of `txc trace`. The number of states must be that of `txc outcomes`, which must list as many outcomes, and a stuck
+order if and only if the page has a stuck state. Properties must have the values that `txc trace --property` reports.
 
 With --browser, Chromium opens each page of docs/explore/ at its last order, and must show the memory after it.
 """
@@ -25,7 +24,7 @@ from lib.words import TOP, TXC, asked
 PAGES = f"{TOP}/docs/explore"
 # Each page of the documents, and what writes it: README and TUTORIAL say so too.
 SHOWN = {
-    "seats.html": "examples/seats.c --threads 2 --order 1,0,0,1",
+    "seats.html": "examples/seats.c --threads 2 --order 0,1,1,0",
     "lock_broken.html": "examples/properties/lock_broken.c --threads 2 --always alone",
     "philosophers_broken.html": "examples/properties/philosophers_broken.c --threads 3 --always neighbours_wait",
 }
@@ -47,10 +46,7 @@ for (const state of search.found)
       threads: model.all.map(other => [model.rest(last, other).end || "waits", model.rest(last, other).printed]),
       values: data.properties.map(property => [property.name, property.values[last]]) });
   }
-const places = row => [...new Set(data.states[0][1])].map(
-  place => model.all.filter(thread => data.states[0][1][thread] === place).map(thread => row[thread]).sort());
-const apart = new Set(search.found.map(state => JSON.stringify([data.states[state][0], places(data.states[state][1])])));
-console.log(JSON.stringify({ cells: data.cells, states: apart.size, outcomes: model.outcomes.size,
+console.log(JSON.stringify({ cells: data.cells, states: search.found.length, outcomes: model.outcomes.size,
   stuck: model.can.includes(false), turns }));
 """
 LAST = re.compile(r"^== outcomes: (\d+), stuck: (\d+), states: (\d+)", re.M)

@@ -38,7 +38,7 @@ TITLE = re.compile(r"line (\d+):\n(__transaction_\w+.*)", re.DOTALL)
 ORDER = re.compile(r"(--order )?([\d,]+)")
 # Each picture of the documents, and what draws it: README and TUTORIAL say so too.
 SHOWN = {
-    "seats.svg": "examples/seats.c --threads 2 --order 1,0,0,1",
+    "seats.svg": "examples/seats.c --threads 2 --order 0,1,1,0",
     "audit.svg": "examples/audit.c --threads 2 --order 0,1,0",
     "counter.svg": "examples/counter.c --threads 2 --schedule examples/schedules/counter.txt",
     "booking.svg": "examples/booking.c --threads 2 --seed 3",

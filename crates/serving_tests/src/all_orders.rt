@@ -67,7 +67,7 @@ fn outcome_rows() -> &'static [Row] {
             b"",
             (
                 0,
-                b"== outcome --order 0,1\n== thread 0: ended\n== thread 1: ended\n== memory\nx = 2\n== outcomes: 1, stuck: 0, states: 3, threads: 2\n",
+                b"== outcome --order 0,1\n== thread 0: ended\n== thread 1: ended\n== memory\nx = 2\n== outcomes: 1, stuck: 0, states: 4, threads: 2\n",
                 b"",
             ),
         ),
@@ -77,7 +77,7 @@ fn outcome_rows() -> &'static [Row] {
             b"",
             (
                 0,
-                b"== outcome --order 0,1\n== thread 0: ended\n== thread 1: ended\n== memory\nx = 2\n== outcomes: 1, stuck: 0, states: 3, threads: 2\n",
+                b"== outcome --order 0,1\n== thread 0: ended\n== thread 1: ended\n== memory\nx = 2\n== outcomes: 1, stuck: 0, states: 4, threads: 2\n",
                 b"",
             ),
         ),
@@ -108,7 +108,7 @@ fn outcome_rows() -> &'static [Row] {
             b"",
             (
                 3,
-                b"== outcome --order 1,0\n== thread 0: ended\n1\n== thread 1: trap 2\n== memory\nx = 1\n== outcome --order 0,1\n== thread 0: trap 2\n== thread 1: ended\n1\n== memory\nx = 1\n== outcomes: 2, stuck: 0, states: 3, threads: 2\n",
+                b"== outcome --order 0,1\n== thread 0: trap 2\n== thread 1: ended\n1\n== memory\nx = 1\n== outcome --order 1,0\n== thread 0: ended\n1\n== thread 1: trap 2\n== memory\nx = 1\n== outcomes: 2, stuck: 0, states: 5, threads: 2\n",
                 b"",
             ),
         ),
@@ -140,7 +140,7 @@ fn outcome_rows() -> &'static [Row] {
             b"",
             (
                 4,
-                b"== outcomes: 0, stuck: 0, states: 2, threads: 2, stopped at the steps\n",
+                b"== outcomes: 0, stuck: 0, states: 3, threads: 2, stopped at the steps\n",
                 b"",
             ),
         ),
@@ -164,7 +164,7 @@ fn outcome_rows() -> &'static [Row] {
                 b"",
             ),
         ),
-        // more states than the limit: the initial state, the one after a thread's turn, and the final state
+        // more states than the limit: the initial state, one after each thread's turn, and the final state
         (
             "txc outcomes a.c --threads 2 --limit 0",
             ADDS,
@@ -186,22 +186,22 @@ fn outcome_rows() -> &'static [Row] {
             ),
         ),
         (
-            "txc outcomes a.c --threads 2 --limit 2",
-            ADDS,
-            b"",
-            (
-                4,
-                b"== outcomes: 0, stuck: 0, states: 2, threads: 2, stopped at the limit\n",
-                b"",
-            ),
-        ),
-        (
             "txc outcomes a.c --threads 2 --limit 3",
             ADDS,
             b"",
             (
+                4,
+                b"== outcomes: 0, stuck: 0, states: 3, threads: 2, stopped at the limit\n",
+                b"",
+            ),
+        ),
+        (
+            "txc outcomes a.c --threads 2 --limit 4",
+            ADDS,
+            b"",
+            (
                 0,
-                b"== outcome --order 0,1\n== thread 0: ended\n== thread 1: ended\n== memory\nx = 2\n== outcomes: 1, stuck: 0, states: 3, threads: 2\n",
+                b"== outcome --order 0,1\n== thread 0: ended\n== thread 1: ended\n== memory\nx = 2\n== outcomes: 1, stuck: 0, states: 4, threads: 2\n",
                 b"",
             ),
         ),
@@ -320,15 +320,15 @@ fn lists_outcomes(rt: HostRuntime) {
     assert_eq!(rt; wrong_row(&rt, rt.alloc(), outcome_rows()), None);
 }
 
-/// Threads that each add their number 40 times. They begin differently, so none can be exchanged.
+/// Threads that each add 40 times.
 pub(crate) const MANY: &str =
-    "int x; void worker(int self) { int i; for (i = 0; i < 40; i++) __transaction_atomic { x = x + self; } }";
+    "int x; void worker(int self) { int i; for (i = 0; i < 40; i++) __transaction_atomic { x = x + 1; } }";
 
 #[test]
 fn shows_how_far_it_is(rt: HostRuntime) {
     let line = "txc outcomes a.c --threads 2";
     let told =
-        b"== outcome --order 0,0,0,0,0,0,0,0,0,0,0,0,0,0,0,0,0,0,0,0,0,0,0,0,0,0,0,0,0,0,0,0,0,0,0,0,0,0,0,0,1,1,1,1,1,1,1,1,1,1,1,1,1,1,1,1,1,1,1,1,1,1,1,1,1,1,1,1,1,1,1,1,1,1,1,1,1,1,1,1\n== thread 0: ended\n== thread 1: ended\n== memory\nx = 40\n== outcomes: 1, stuck: 0, states: 1681, threads: 2\n".as_slice();
+        b"== outcome --order 0,0,0,0,0,0,0,0,0,0,0,0,0,0,0,0,0,0,0,0,0,0,0,0,0,0,0,0,0,0,0,0,0,0,0,0,0,0,0,0,1,1,1,1,1,1,1,1,1,1,1,1,1,1,1,1,1,1,1,1,1,1,1,1,1,1,1,1,1,1,1,1,1,1,1,1,1,1,1,1\n== thread 0: ended\n== thread 1: ended\n== memory\nx = 80\n== outcomes: 1, stuck: 0, states: 1681, threads: 2\n".as_slice();
     let many = MANY.as_bytes();
     let shown =
         b"\rtxc: 1000 states, 18 to expand\r                                                                               \r".as_slice();

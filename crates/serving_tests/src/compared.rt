@@ -79,7 +79,7 @@ fn refined_rows() -> &'static [Row] {
             WHOLE,
             (
                 5,
-                b"== not an outcome of b.c --order 1,0,0,1\n== thread 0: ended\n== thread 1: ended\n== memory\nx = 2\n",
+                b"== not an outcome of b.c --order 0,1,1,0\n== thread 0: ended\n== thread 1: ended\n== memory\nx = 2\n",
                 b"",
             ),
         ),
@@ -159,7 +159,7 @@ fn refined_rows() -> &'static [Row] {
             b"int x; void worker(int self) { __transaction_atomic { x = 1; } }",
             (
                 5,
-                b"== not an outcome of b.c --order 1,0\n== thread 0: ended\n== thread 1: trap 2\n== memory\nx = 1\n",
+                b"== not an outcome of b.c --order 0,1\n== thread 0: trap 2\n== thread 1: ended\n== memory\nx = 1\n",
                 b"",
             ),
         ),
@@ -337,10 +337,10 @@ fn expected_rows() -> &'static [Row] {
         (
             "txc outcomes a.c --expect b.c",
             ADDS,
-            b"== outcome --order 0,1\n== thread 0: ended\n== thread 1: ended\n== memory\nx = 2\n== outcomes: 1, stuck: 0, states: 3, threads: 3\n",
+            b"== outcome --order 0,1\n== thread 0: ended\n== thread 1: ended\n== memory\nx = 2\n== outcomes: 1, stuck: 0, states: 4, threads: 3\n",
             (
                 5,
-                b"line 6 differs\nexpected: == outcomes: 1, stuck: 0, states: 3, threads: 3\nfound: == outcomes: 1, stuck: 0, states: 3, threads: 2\n",
+                b"line 6 differs\nexpected: == outcomes: 1, stuck: 0, states: 4, threads: 3\nfound: == outcomes: 1, stuck: 0, states: 4, threads: 2\n",
                 b"",
             ),
         ),
@@ -355,7 +355,7 @@ fn expected_rows() -> &'static [Row] {
         (
             EXPECTS,
             TRAPS,
-            b"== outcome --order 1,0\n== thread 0: ended\n== thread 1: trap 2\n== memory\nx = 1\n== outcome --order 0,1\n== thread 0: trap 2\n== thread 1: ended\n== memory\nx = 1\n== outcomes: 2, stuck: 0, states: 3, threads: 2\n",
+            b"== outcome --order 0,1\n== thread 0: trap 2\n== thread 1: ended\n== memory\nx = 1\n== outcome --order 1,0\n== thread 0: ended\n== thread 1: trap 2\n== memory\nx = 1\n== outcomes: 2, stuck: 0, states: 5, threads: 2\n",
             (0, b"as expected\n", b""),
         ),
         (

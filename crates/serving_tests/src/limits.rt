@@ -7,10 +7,6 @@ use test_serving::{Row, answers, wrong_row};
 const TWICE: &[u8] =
     b"int x; void worker(int self) { int t; __transaction_atomic { t = x; } __transaction_atomic { x = t + 1; } }";
 
-/// The same, but the threads add their numbers, so they begin differently.
-const OWN: &[u8] =
-    b"int x; void worker(int self) { int t; __transaction_atomic { t = x; } __transaction_atomic { x = t + self; } }";
-
 /// Prints before and after a loop that takes more than 2^20 steps.
 const PRINTS: &[u8] =
     b"void worker(int self) { int i; printf(\"a\"); for (i = 0; i < 600000; i++) ; printf(\"b\"); }";
@@ -31,7 +27,7 @@ fn rows() -> &'static [Row] {
             b"",
             (
                 4,
-                b"== outcomes: 0, stuck: 0, states: 2, threads: 2, stopped at the memory\n",
+                b"== outcomes: 0, stuck: 0, states: 3, threads: 2, stopped at the memory\n",
                 b"",
             ),
         ),
@@ -41,7 +37,7 @@ fn rows() -> &'static [Row] {
             b"",
             (
                 0,
-                b"== outcome --order 0,0,1,1\n== thread 0: ended\n== thread 1: ended\n== memory\nx = 2\n== outcome --order 1,0,0,1\n== thread 0: ended\n== thread 1: ended\n== memory\nx = 1\n== outcomes: 2, stuck: 0, states: 8, threads: 2\n",
+                b"== outcome --order 0,0,1,1\n== thread 0: ended\n== thread 1: ended\n== memory\nx = 2\n== outcome --order 0,1,1,0\n== thread 0: ended\n== thread 1: ended\n== memory\nx = 1\n== outcomes: 2, stuck: 0, states: 12, threads: 2\n",
                 b"",
             ),
         ),
@@ -112,7 +108,7 @@ fn it_is_told_what_lets_a_walk_go_on(rt: HostRuntime) {
         b"txc: in 3 states: thread 0 is at 2 places, in 2 ways; thread 1 is at 2 places, in 2 ways\ntxc: --memory MB is how much memory states and list may take\n".as_slice(),
     );
     let line = "txc outcomes a.c --threads 2 --memory 0";
-    assert!(rt; answers(&rt, alloc, line, OWN, b"", true, at_memory));
+    assert!(rt; answers(&rt, alloc, line, TWICE, b"", true, at_memory));
 }
 
 /// A run of 20,000,000 steps shows its progress once, and clears the line.

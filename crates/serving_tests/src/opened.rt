@@ -329,8 +329,8 @@ fn rows() -> &'static [Row] {
             true,
             (
                 4,
-                b"== outcomes: 0, stuck: 0, states: 2, threads: 2, stopped at the time\n",
-                b"txc: in 2 states: x has 2 values, 0 to 1\ntxc: --time SECONDS is how long the search may take, and as long again the list\n",
+                b"== outcomes: 0, stuck: 0, states: 3, threads: 2, stopped at the time\n",
+                b"txc: in 3 states: x has 2 values, 0 to 1\ntxc: --time SECONDS is how long the search may take, and as long again the list\n",
             ),
         ),
         (
@@ -342,7 +342,7 @@ fn rows() -> &'static [Row] {
             false,
             (
                 4,
-                b"== open p: states 2, threads: 2, stopped at the time\n",
+                b"== open p: states 3, threads: 2, stopped at the time\n",
                 b"",
             ),
         ),

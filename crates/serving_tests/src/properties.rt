@@ -24,7 +24,7 @@ fn property_rows() -> &'static [Row] {
             b"",
             (
                 0,
-                b"== always small: states 3, threads: 2\n== final done: outcomes 1, threads: 2\n",
+                b"== always small: states 4, threads: 2\n== final done: outcomes 1, threads: 2\n",
                 b"",
             ),
         ),
@@ -66,7 +66,7 @@ fn property_rows() -> &'static [Row] {
             b"",
             (
                 5,
-                b"== not not_five --order 1,1,1,1,1\n== thread 0: waits\n== thread 1: waits\n== memory\nx = 5\n",
+                b"== not not_five --order 0,0,0,0,0\n== thread 0: waits\n== thread 1: waits\n== memory\nx = 5\n",
                 b"",
             ),
         ),
@@ -76,7 +76,7 @@ fn property_rows() -> &'static [Row] {
             b"",
             (
                 5,
-                b"== not not_five --order 1,1,1,1,1\n== thread 0: waits\n== thread 1: waits\n== memory\nx = 5\n== stuck --order ''\n== thread 0: waits\n== thread 1: waits\n== memory\nx = 0\n",
+                b"== not not_five --order 0,0,0,0,0\n== thread 0: waits\n== thread 1: waits\n== memory\nx = 5\n== stuck --order ''\n== thread 0: waits\n== thread 1: waits\n== memory\nx = 0\n",
                 b"",
             ),
         ),

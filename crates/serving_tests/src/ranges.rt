@@ -13,7 +13,7 @@ fn listed_rows() -> &'static [Row] {
             b"",
             (
                 0,
-                b"== outcome --order 0\n== thread 0: ended\n== memory\nx = 1\n== outcomes: 1, stuck: 0, states: 2, threads: 1\n== outcome --order 0,1\n== thread 0: ended\n== thread 1: ended\n== memory\nx = 2\n== outcomes: 1, stuck: 0, states: 3, threads: 2\n",
+                b"== outcome --order 0\n== thread 0: ended\n== memory\nx = 1\n== outcomes: 1, stuck: 0, states: 2, threads: 1\n== outcome --order 0,1\n== thread 0: ended\n== thread 1: ended\n== memory\nx = 2\n== outcomes: 1, stuck: 0, states: 4, threads: 2\n",
                 b"",
             ),
         ),
@@ -23,7 +23,7 @@ fn listed_rows() -> &'static [Row] {
             b"",
             (
                 0,
-                b"== outcome --order 0,1\n== thread 0: ended\n== thread 1: ended\n== memory\nx = 2\n== outcomes: 1, stuck: 0, states: 3, threads: 2\n",
+                b"== outcome --order 0,1\n== thread 0: ended\n== thread 1: ended\n== memory\nx = 2\n== outcomes: 1, stuck: 0, states: 4, threads: 2\n",
                 b"",
             ),
         ),
@@ -34,17 +34,17 @@ fn listed_rows() -> &'static [Row] {
             b"",
             (
                 3,
-                b"== outcome --order 0\n== thread 0: ended\n== memory\nx = 1\n== outcomes: 1, stuck: 0, states: 2, threads: 1\n== outcome --order 1,0\n== thread 0: trap 2\n== thread 1: ended\n== memory\nx = 2\n== outcome --order 0,1\n== thread 0: ended\n== thread 1: trap 2\n== memory\nx = 2\n== outcomes: 2, stuck: 0, states: 3, threads: 2\n",
+                b"== outcome --order 0\n== thread 0: ended\n== memory\nx = 1\n== outcomes: 1, stuck: 0, states: 2, threads: 1\n== outcome --order 0,1\n== thread 0: ended\n== thread 1: trap 2\n== memory\nx = 2\n== outcome --order 1,0\n== thread 0: trap 2\n== thread 1: ended\n== memory\nx = 2\n== outcomes: 2, stuck: 0, states: 5, threads: 2\n",
                 b"",
             ),
         ),
         (
-            "txc outcomes a.c --threads 1..3 --limit 2",
+            "txc outcomes a.c --threads 1..3 --limit 3",
             b"int x; void worker(int self) { __transaction_atomic { x = x + 1; } }",
             b"",
             (
                 4,
-                b"== outcome --order 0\n== thread 0: ended\n== memory\nx = 1\n== outcomes: 1, stuck: 0, states: 2, threads: 1\n== outcomes: 0, stuck: 0, states: 2, threads: 2, stopped at the limit\n",
+                b"== outcome --order 0\n== thread 0: ended\n== memory\nx = 1\n== outcomes: 1, stuck: 0, states: 2, threads: 1\n== outcomes: 0, stuck: 0, states: 3, threads: 2, stopped at the limit\n",
                 b"",
             ),
         ),
@@ -83,7 +83,7 @@ fn asked_rows() -> &'static [Row] {
             b"",
             (
                 0,
-                b"== always few: states 2, threads: 1\n== final some: outcomes 1, threads: 1\n== always few: states 3, threads: 2\n== final some: outcomes 1, threads: 2\n",
+                b"== always few: states 2, threads: 1\n== final some: outcomes 1, threads: 1\n== always few: states 4, threads: 2\n== final some: outcomes 1, threads: 2\n",
                 b"",
             ),
         ),
@@ -94,7 +94,7 @@ fn asked_rows() -> &'static [Row] {
             b"",
             (
                 5,
-                b"== always few: states 3, threads: 2\n== not few --order 1,0,2\n== thread 0: ended\n== thread 1: ended\n== thread 2: ended\n== memory\nx = 3\n",
+                b"== always few: states 4, threads: 2\n== not few --order 0,1,2\n== thread 0: ended\n== thread 1: ended\n== thread 2: ended\n== memory\nx = 3\n",
                 b"",
             ),
         ),
@@ -104,7 +104,7 @@ fn asked_rows() -> &'static [Row] {
             b"",
             (
                 5,
-                b"== always few: states 2, threads: 1\n== always few: states 3, threads: 2\n== not few --order 1,0,2\n== thread 0: ended\n== thread 1: ended\n== thread 2: ended\n== memory\nx = 3\n",
+                b"== always few: states 2, threads: 1\n== always few: states 4, threads: 2\n== not few --order 0,1,2\n== thread 0: ended\n== thread 1: ended\n== thread 2: ended\n== memory\nx = 3\n",
                 b"",
             ),
         ),
@@ -131,12 +131,12 @@ fn asked_rows() -> &'static [Row] {
             ),
         ),
         (
-            "txc outcomes a.c --threads 1..3 --always few --limit 2",
+            "txc outcomes a.c --threads 1..3 --always few --limit 3",
             b"int x; int few(void) { return x < 3; } int some(void) { return x > 0; } void worker(int self) { __transaction_atomic { x = x + 1; } }",
             b"",
             (
                 4,
-                b"== always few: states 2, threads: 1\n== open few: states 2, threads: 2, stopped at the limit\n",
+                b"== always few: states 2, threads: 1\n== open few: states 3, threads: 2, stopped at the limit\n",
                 b"",
             ),
         ),
@@ -185,7 +185,7 @@ fn compared_rows() -> &'static [Row] {
         ),
         // a search that stops
         (
-            "txc outcomes a.c --threads 1..3 --refines b.c --limit 2",
+            "txc outcomes a.c --threads 1..3 --refines b.c --limit 3",
             b"int x; void worker(int self) { __transaction_atomic { x = x + 1; } }",
             b"int x; void worker(int self) { __transaction_atomic { x = x + 1; } }",
             (
@@ -198,7 +198,7 @@ fn compared_rows() -> &'static [Row] {
         (
             "txc outcomes a.c --threads 2..2 --expect b.c",
             b"int x; void worker(int self) { __transaction_atomic { x = x + 1; } }",
-            b"== outcome --order 0,1\n== thread 0: ended\n== thread 1: ended\n== memory\nx = 2\n== outcomes: 1, stuck: 0, states: 3, threads: 2\n",
+            b"== outcome --order 0,1\n== thread 0: ended\n== thread 1: ended\n== memory\nx = 2\n== outcomes: 1, stuck: 0, states: 4, threads: 2\n",
             (0, b"as expected\n", b""),
         ),
         // a source that is refused

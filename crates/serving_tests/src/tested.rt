@@ -135,7 +135,7 @@ fn rows() -> &'static [Row] {
             "txc test a.c",
             Ok(EXPECTS),
             Ok(
-                b"== outcome --order 0,1\r\n== thread 0: ended\r\n== thread 1: ended\r\n== memory\r\nx = 2\r\n== outcomes: 1, stuck: 0, states: 3, threads: 2\r\n",
+                b"== outcome --order 0,1\r\n== thread 0: ended\r\n== thread 1: ended\r\n== memory\r\nx = 2\r\n== outcomes: 1, stuck: 0, states: 4, threads: 2\r\n",
             ),
             (
                 5,
@@ -148,7 +148,7 @@ fn rows() -> &'static [Row] {
             "txc test a.c",
             Ok(EXPECTS),
             Ok(
-                b"== outcome --order 0,1\n== thread 0: ended\n== thread 1: ended\n== memory\nx = 2\n== outcomes: 1, stuck: 0, states: 3, threads: 2\n",
+                b"== outcome --order 0,1\n== thread 0: ended\n== thread 1: ended\n== memory\nx = 2\n== outcomes: 1, stuck: 0, states: 4, threads: 2\n",
             ),
             (
                 5,

@@ -240,8 +240,8 @@ fn traces() -> &'static [Row] {
             b"",
             (
                 5,
-                b"== not both --order 1,0,0,1\n== thread 0: ended\n== thread 1: ended\n== memory\nx = 1\n",
-                b"txc: with --order 1,0,0,1\nturn thread at      x\n                    0\n   1      1 5:3     0   t = x\n   2      0 5:3     0   t = x\n   3      0 6:3    >1   x = t + 1  ended\n   4      1 6:3    >1   x = t + 1  ended\nthread 0: ended\nthread 1: ended\nproperty both: fails: x = 1\n",
+                b"== not both --order 0,1,0,1\n== thread 0: ended\n== thread 1: ended\n== memory\nx = 1\n",
+                b"txc: with --order 0,1,0,1\nturn thread at      x\n                    0\n   1      0 5:3     0   t = x\n   2      1 5:3     0   t = x\n   3      0 6:3    >1   x = t + 1  ended\n   4      1 6:3    >1   x = t + 1  ended\nthread 0: ended\nthread 1: ended\nproperty both: fails: x = 1\n",
             ),
         ),
     ];

@@ -7,7 +7,7 @@ ghost use Rattle.walks.specs.Walks.{IsWalk};
 use crate::programs::{
     ADDS, APART, DINES, FORGETS, FORGETS_ALL, LOCKS, LOOKS, PRINTS, SPINS, TICKETS, TRAPS, WAITS,
 };
-use crate::walked::{code_of, large_walk_of};
+use crate::walked::{code_of, walk_of};
 use std::alloc::Allocator;
 use test_programs::accepted_of;
 use walks::{Ends, Walk, ends_of, first_stuck};
@@ -50,26 +50,6 @@ fn rows() -> &'static [Row] {
         (SPINS, 3, 1, 0, 1, 1),
         // no transaction
         ("int x; void worker(int self) { }", 3, 1, 1, 0, 0),
-    ];
-    &ROWS
-}
-
-/// The same where threads that begin alike are not exchanged.
-fn exact_rows() -> &'static [Row] {
-    static ROWS: [Row; 13] = [
-        (ADDS, 2, 12, 2, 0, 0),
-        (ADDS, 3, 59, 3, 0, 0),
-        (ADDS, 4, 330, 4, 0, 0),
-        (ADDS, 5, 2027, 5, 0, 0),
-        (APART, 4, 256, 1, 0, 0),
-        (TICKETS, 2, 69, 1, 0, 0),
-        (TICKETS, 3, 549, 1, 0, 0),
-        (TICKETS, 4, 4905, 1, 0, 0),
-        (LOCKS, 2, 13, 1, 1, 1),
-        (DINES, 4, 497, 1, 0, 0),
-        (PRINTS, 2, 5, 2, 0, 0),
-        (TRAPS, 2, 5, 2, 0, 0),
-        (SPINS, 3, 1, 0, 1, 1),
     ];
     &ROWS
 }
@@ -117,24 +97,19 @@ fn is_counted<A: Allocator + Copy>(walk: &Walk<A>, row: &Row) -> bool
         && first.len() == row.5
 }
 
-/// Whether the walk of a row, in which threads that begin alike are exchanged or not, has found what the row tells.
-fn is_so<A: Allocator + Copy>(alloc: A, row: &Row, merges: bool) -> Option<bool> {
+fn is_so<A: Allocator + Copy>(alloc: A, row: &Row) -> Option<bool> {
     let accepted = accepted_of(alloc, row.0)?;
     let code = code_of(alloc, &accepted)?;
-    match large_walk_of(alloc, &code, row.1, merges) {
+    match walk_of(alloc, &code, row.1, 1000000) {
         Ok(Some(walk)) => Some(is_counted(&walk, row)),
         _ => None,
     }
 }
 
 /// The first row that is not so.
-fn first_other<A: Allocator + Copy>(
-    alloc: A,
-    rows: &[Row],
-    merges: bool,
-) -> Option<(&'static str, u32)> {
+fn first_other<A: Allocator + Copy>(alloc: A, rows: &[Row]) -> Option<(&'static str, u32)> {
     'rows: for row in rows {
-        if is_so(alloc, row, merges) != Some(true) {
+        if is_so(alloc, row) != Some(true) {
             return Some((row.0, row.1));
         }
     }
@@ -143,10 +118,5 @@ fn first_other<A: Allocator + Copy>(
 
 #[test]
 fn states_are_counted(rt: HostRuntime) {
-    assert_eq!(rt; first_other(rt.alloc(), rows(), true), None);
-}
-
-#[test]
-fn states_are_counted_without_exchanges(rt: HostRuntime) {
-    assert_eq!(rt; first_other(rt.alloc(), exact_rows(), false), None);
+    assert_eq!(rt; first_other(rt.alloc(), rows()), None);
 }

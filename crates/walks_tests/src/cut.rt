@@ -8,16 +8,16 @@ use test_memory::{Refusing, growths};
 use test_programs::accepted_of;
 use walks::{Strategy, Walk, ends_of, first_stuck};
 
-/// Whether a walk at a limit has as many states, and is whole where there are no more than eight.
+/// Whether a walk at a limit has as many states, and is whole where there are no more than twelve.
 fn is_cut<A: Allocator + Copy>(walk: &Walk<A>, limit: usize) -> bool {
-    walk.states() == limit.max(1).min(8) && walk.is_whole() == (limit >= 8) && !walk.is_long()
+    walk.states() == limit.max(1).min(12) && walk.is_whole() == (limit >= 12) && !walk.is_long()
 }
 
-/// Whether walks of two threads are so at all limits below 12.
+/// Whether walks of two threads are so at all limits below 15.
 fn are_cut<A: Allocator + Copy>(alloc: A) -> Option<bool> {
     let accepted = accepted_of(alloc, ADDS)?;
     let code = code_of(alloc, &accepted)?;
-    'limits: for limit in 0..12 {
+    'limits: for limit in 0..15 {
         match walk_of(alloc, &code, 2, limit) {
             Ok(Some(walk)) => {
                 if !is_cut(&walk, limit as usize) {
@@ -42,17 +42,17 @@ fn is_cut_within<A: Allocator + Copy>(alloc: A, bytes: u64, states: usize) -> Op
     let code = code_of(alloc, &accepted)?;
     match walk_within(alloc, &code, 2, Strategy::DepthFirst, 100, bytes) {
         Ok(Some(walk)) => Some(
-            walk.states() == states && walk.is_whole() == (states == 8) && !walk.is_long(),
+            walk.states() == states && walk.is_whole() == (states == 12) && !walk.is_long(),
         ),
         _ => None,
     }
 }
 
-/// A walk makes the turns of its first state before it is asked. Both lead to one state, since the threads begin alike.
+/// A walk goes on from its first state before it is asked, to two others.
 #[test]
 fn a_walk_ends_where_it_takes_too_much_memory(rt: HostRuntime) {
-    assert_that(&rt, is_cut_within(rt.alloc(), 0, 2) == Some(true));
-    assert_that(&rt, is_cut_within(rt.alloc(), 1000000, 8) == Some(true));
+    assert_that(&rt, is_cut_within(rt.alloc(), 0, 3) == Some(true));
+    assert_that(&rt, is_cut_within(rt.alloc(), 1000000, 12) == Some(true));
 }
 
 /// Of a walk whether it is long, and whether it is whole: none where there is no walk.

@@ -36,27 +36,6 @@ fn memory_of<A: Allocator + Copy>(alloc: A, code: &Code<A>) -> Result<Vec<u64, A
     Ok(memory)
 }
 
-/// The walk of a search, for which so many bytes are there: none where a thread doesn't come to rest in its steps.
-fn walk_by<A: Allocator + Copy>(
-    alloc: A,
-    code: &Code<A>,
-    threads: u32,
-    search: Search,
-    bytes: u64,
-) -> Result<Option<Walk<A>>, AllocError>
-    ensures { IfOk result (λ r. IfSome r (IsWalk code.now)) }
-{
-    let memory = memory_of(alloc, code)?;
-    if threads == 0 || !is_memory(code, memory.as_slice()) {
-        return Ok(None);
-    }
-    let mut told = Told {
-        states: 0,
-        most: bytes,
-    };
-    walk_states(alloc, code, memory.as_slice(), threads, search, &mut told)
-}
-
 /// The walk of so many threads of a code, to at most so many states: none where one of them doesn't come to rest in a
 /// thousand instructions.
 pub fn walk_of<A: Allocator + Copy>(
@@ -70,26 +49,7 @@ pub fn walk_of<A: Allocator + Copy>(
     walk_within(alloc, code, threads, Strategy::DepthFirst, limit, u64::MAX)
 }
 
-/// The walk of so many threads to at most a million states, in which those that begin alike are exchanged or not.
-pub fn large_walk_of<A: Allocator + Copy>(
-    alloc: A,
-    code: &Code<A>,
-    threads: u32,
-    merges: bool,
-) -> Result<Option<Walk<A>>, AllocError>
-    ensures { IfOk result (λ r. IfSome r (IsWalk code.now)) }
-{
-    let search = Search {
-        strategy: Strategy::DepthFirst,
-        steps: 1000,
-        limit: 1000000,
-        key: 7,
-        merges,
-    };
-    walk_by(alloc, code, threads, search, u64::MAX)
-}
-
-/// The walk of a strategy, for which so many bytes are there.
+/// The same walk, for which so many bytes are there.
 pub fn walk_within<A: Allocator + Copy>(
     alloc: A,
     code: &Code<A>,
@@ -100,12 +60,26 @@ pub fn walk_within<A: Allocator + Copy>(
 ) -> Result<Option<Walk<A>>, AllocError>
     ensures { IfOk result (λ r. IfSome r (IsWalk code.now)) }
 {
-    let search = Search {
-        strategy,
-        steps: 1000,
-        limit,
-        key: 7,
-        merges: true,
+    let memory = memory_of(alloc, code)?;
+    if threads == 0 || !is_memory(code, memory.as_slice()) {
+        return Ok(None);
+    }
+    let mut told = Told {
+        states: 0,
+        most: bytes,
     };
-    walk_by(alloc, code, threads, search, bytes)
+    walk_states(
+        alloc,
+        code,
+        memory.as_slice(),
+        threads,
+        Search {
+            strategy,
+            steps: 1000,
+            limit,
+            key: 7,
+            merges: true,
+        },
+        &mut told,
+    )
 }

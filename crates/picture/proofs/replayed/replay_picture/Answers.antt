@@ -1,4 +1,6 @@
+use Rattle.std.proofs.Common.{◌≡◌, [], refl, sym, subst}
+use Rattle.std.specs.Prelude.{IfSome}
+use Rattle.world.specs.Simulations.{Simulation}
+use Rattle.replay.specs.Replays.{simulation_after, timeline_of}
+use Rattle.picture.specs.Replayed.{IsDrawn}
 use Rattle.picture.proofs.replayed.replay_picture.Goals as goal
-
-pub returns-in-Ok-draw_steps : goal.returns-in-Ok-draw_steps
-returns-in-Ok-draw_steps g c = rw (c.as_slice-3.ensures.value, c.in_ok-steps.ensures, c.as_slice.ensures.value, c.in_ok-shown.ensures) at c.in-Ok-draw_steps.ensures
