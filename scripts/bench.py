@@ -166,21 +166,18 @@ def apart(program, rounds):
 
 
 def replays(program, rounds):
-    """Prints how long the longest replay that a seed names takes, of each workload."""
-    sides = {
-        name: (
-            name,
-            [
-                program, 'replay', os.path.join(PROGRAMS, name + '.c'),
-                '--threads', '4', '--seed', '1', '--steps', str(STEPS),
-            ],
-            {},
-        )
-        for name in SHARED
-    }
-    print(f'\nReplays of {STEPS:,} steps of four threads, processor time\n\n| Workload | ms |\n|---|---|')
-    for name, least in measured(rounds, sides, 1).items():
-        print(f'| {name} | {1000 * least:.0f} |')
+    """Prints how long the longest replay that a seed names takes and how much memory, of each workload, without and
+    with its picture."""
+    print(f'\nReplays of {STEPS:,} steps of four threads, processor time and the most memory held\n')
+    print('| Workload | ms | MiB | Picture, ms | MiB |\n|---|---|---|---|---|')
+    for name in SHARED:
+        source = os.path.join(PROGRAMS, name + '.c')
+        words = [program, 'replay', source, '--threads', '4', '--seed', '1', '--steps', str(STEPS)]
+        cells = [name]
+        for more in ([], ['--picture']):
+            runs = [run(words + more, {}) for _ in range(rounds)]
+            cells += [f'{1000 * min(it[0] for it in runs):.0f}', f'{min(it[2] for it in runs):.0f}']
+        print(f'| {" | ".join(cells)} |')
 
 
 def turns(program, rounds):

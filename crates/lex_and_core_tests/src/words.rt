@@ -778,7 +778,7 @@ fn questions() -> &'static [Row] {
     &ROWS
 }
 
-/// Functions that are asked for every number of threads.
+/// Properties for every number of threads.
 fn coverages() -> &'static [Row] {
     static ROWS: [Row; 9] = [
         (

@@ -47,7 +47,7 @@ fn words<'t>(alloc: Global, line: &'t [u8]) -> Result<Vec<&'t [u8]>, AllocError>
 }
 
 /// The lines of a text.
-fn lines<'t>(alloc: Global, text: &'t [u8]) -> Result<Vec<&'t [u8]>, AllocError>
+pub(crate) fn lines<'t>(alloc: Global, text: &'t [u8]) -> Result<Vec<&'t [u8]>, AllocError>
     ensures { IfOk result (λ v. map (λ p. p.now) v.items ≡ lines_of text.now) }
 {
     text.split(|byte| *byte == b'\n').collect(alloc)
@@ -82,7 +82,7 @@ fn column(line: &[u8]) -> usize {
 }
 
 /// The question that a line is, if it is one.
-fn question_of<'t>(
+pub(crate) fn question_of<'t>(
     alloc: Global,
     number: usize,
     line: &'t [u8],

@@ -6,9 +6,9 @@ ghost use Rattle.questions.specs.Questions.{expected_by, expected_of, status_of,
 /// The answer that a question expects.
 #[derive(Clone, Copy, Debug, PartialEq, Eq)]
 pub enum Expected {
-    /// What is asked holds.
+    /// The properties hold, or the outcomes are the expected ones.
     Holds,
-    /// A property fails, or outcomes are not those that were said: `(fails)`.
+    /// A property fails, or the outcomes are not the expected ones: `(fails)`.
     Fails,
     /// A thread traps: `(traps)`.
     Traps,
@@ -30,7 +30,7 @@ impl Expected {
     }
 }
 
-/// What a word says of the expected answer, if it is the last one.
+/// The expected answer, if this is the last word.
 fn expected_by(word: &[u8]) -> Expected
     ensures { result ≡ expected_by word.now }
 {

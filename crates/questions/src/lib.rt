@@ -3,6 +3,8 @@
 
 mod asked;
 mod expected;
+mod spelling;
 
 pub use asked::{Question, questions};
 pub use expected::{Expected, answer_expected, without_expected};
+pub use spelling::{Position, misspelled};

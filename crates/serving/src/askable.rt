@@ -30,7 +30,7 @@ impl Unaskable {
     pub(crate) fn words(self) -> &'static str {
         match self {
             Unaskable::Unknown => "no function of the file",
-            Unaskable::OtherType => "it is asked as int NAME(void)",
+            Unaskable::OtherType => "it is not of the form int NAME(void)",
             Unaskable::NoStep => "it prints, or begins a relaxed transaction",
         }
     }

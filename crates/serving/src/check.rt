@@ -14,8 +14,8 @@ use separation::Accepted;
 use std::alloc::Allocator;
 use std::io::Write;
 
-/// Reports whether a source is accepted. If it is asked to, or if standard error is a terminal, it also reports the
-/// warnings about an accepted source, or the further faults of a refused one.
+/// Reports whether a source is accepted. On request, or if standard error is a terminal, it also reports the warnings
+/// about an accepted source, or the further faults of a refused one.
 pub(crate) fn check<A: Allocator + Copy, W: Write, E: Write>(
     alloc: A,
     text: &str,

@@ -5,6 +5,7 @@ use crate::listed_ends::push_numbers;
 use crate::properties::PropertiesFound;
 use crate::tell::Teller;
 use crate::walked::OutcomesFound;
+use annotations::begin_annotation;
 use command::Format;
 use lex::place;
 use messages::write_quoted;
@@ -197,7 +198,7 @@ fn annotate<A: Allocator, E: Write>(
         Finding::Fails(order) => ("error", "fails", Some(order)),
         Finding::Spent(order) => ("error", "takes too long", Some(order)),
     };
-    begin_annotation(kind, teller);
+    let _ = begin_annotation(kind, teller.detail.file, teller.err);
     if let Some(start) = start_of(unit, name) {
         let (line, column) = place(text, start.min(text.len()));
         let _ = write!(teller.err, ",line={line},col={column}");
@@ -212,7 +213,7 @@ fn annotate<A: Allocator, E: Write>(
 /// Annotates the source with each stuck order.
 fn annotate_stuck<A: Allocator, E: Write>(stuck: &[ReportedOrder<A>], teller: &mut Teller<'_, E>) {
     'stuck: for one in stuck {
-        begin_annotation("error", teller);
+        let _ = begin_annotation("error", teller.detail.file, teller.err);
         let _ = teller
             .err
             .write_all(b",title=stuck::no continuation lets all threads end");
@@ -228,19 +229,6 @@ fn put_order<E: Write>(order: &[u32], err: &mut E) {
         let _ = err.write_all(b"''");
     }
     push_numbers(order, err);
-}
-
-/// Begins an annotation of the source's file.
-pub(crate) fn begin_annotation<E: Write>(kind: &str, teller: &mut Teller<'_, E>) {
-    let _ = write!(teller.err, "::{kind} file=");
-    let file = teller.detail.file;
-    'characters: for c in file.chars() {
-        if c.is_control() || c == '%' || c == ',' || c == ':' {
-            let _ = write!(teller.err, "%{:02X}", u32::from(c));
-        } else {
-            let _ = write!(teller.err, "{c}");
-        }
-    }
 }
 
 /// Where the name of a defined function begins.

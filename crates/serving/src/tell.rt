@@ -7,8 +7,8 @@ ghost use Rattle.serving.specs.Usage.{IsHelp, IsWrong};
 
 use crate::print::{ENDED, REFUSED, STOPPED, UNUSABLE, print};
 use crate::program::SourceFault;
-use crate::results::begin_annotation;
 use crate::run::thread_numbered;
+use annotations::begin_annotation;
 use command::{Format, UsageFault};
 use lex::place;
 use lex::token::Span;
@@ -151,7 +151,7 @@ impl<E: Write> Teller<'_, E> {
             let _ = self.err.write_all(line.as_slice());
         } else if self.detail.format == Format::Github {
             let (line, column) = place(text, span.start.min(text.len()));
-            begin_annotation("error", self);
+            let _ = begin_annotation("error", self.detail.file, self.err);
             let _ = writeln!(
                 self.err,
                 ",line={line},col={column},title=fault {number:02}::{}",

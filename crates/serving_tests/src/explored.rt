@@ -29,7 +29,7 @@ fn refused() -> &'static [Row] {
             (
                 2,
                 b"",
-                b"txc: usage: --always worker: it is asked as int NAME(void)\n",
+                b"txc: usage: --always worker: it is not of the form int NAME(void)\n",
             ),
         ),
         (

@@ -226,7 +226,7 @@ fn refused_rows() -> &'static [Row] {
             (
                 2,
                 b"",
-                b"txc: usage: --always u: it is asked as int NAME(void)\n",
+                b"txc: usage: --always u: it is not of the form int NAME(void)\n",
             ),
         ),
         (
@@ -236,7 +236,7 @@ fn refused_rows() -> &'static [Row] {
             (
                 2,
                 b"",
-                b"txc: usage: --always v: it is asked as int NAME(void)\n",
+                b"txc: usage: --always v: it is not of the form int NAME(void)\n",
             ),
         ),
         (
@@ -246,7 +246,7 @@ fn refused_rows() -> &'static [Row] {
             (
                 2,
                 b"",
-                b"txc: usage: --always l: it is asked as int NAME(void)\n",
+                b"txc: usage: --always l: it is not of the form int NAME(void)\n",
             ),
         ),
         (
@@ -256,7 +256,7 @@ fn refused_rows() -> &'static [Row] {
             (
                 2,
                 b"",
-                b"txc: usage: --final w: it is asked as int NAME(void)\n",
+                b"txc: usage: --final w: it is not of the form int NAME(void)\n",
             ),
         ),
         (
@@ -266,7 +266,7 @@ fn refused_rows() -> &'static [Row] {
             (
                 2,
                 b"",
-                b"txc: usage: --always worker: it is asked as int NAME(void)\n",
+                b"txc: usage: --always worker: it is not of the form int NAME(void)\n",
             ),
         ),
         (

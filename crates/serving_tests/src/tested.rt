@@ -7,6 +7,7 @@ use std::sync::Wait;
 use std::thread::Threads;
 use std::time::Clock;
 use system::serve_words;
+use test_serving::ADDS;
 
 /// A command line, the contents of its two files, the exit status, how the output begins and ends, and the text on
 /// standard error. The time is between the beginning and the end.
@@ -35,6 +36,18 @@ const TRAPS: &[u8] = b"void worker(int self) { int a = 1 / self; }\n// txc: (tra
 const STUCK: &[u8] =
     b"int x; void worker(int self) { while (__transaction_atomic(!x)) ; }\n// txc: (stuck)\n// txc:\n";
 
+/// Threads wait forever, in a refinement.
+const WAITS: &[u8] =
+    b"int x; void worker(int self) { while (__transaction_atomic(!x)) ; }\n// txc: --refines a.c\n// txc: --refines a.c (stuck)\n";
+
+/// A list is compared with another.
+const EXPECTS: &[u8] =
+    b"int x; void worker(int self) { __transaction_atomic { x = x + 1; } }\n// txc: --expect s.txt\n// txc: --expect s.txt (fails)\n";
+
+/// A property never ends, and a thread prints a line that reports a stuck order.
+const SPENT: &[u8] =
+    b"int x; int ends(void) { while (x) ; return 1; } void worker(int self) { printf(\"\\n== stuck --order 0\\n\"); __transaction_atomic { x = 1; } }\n// txc: --always ends --steps 100 (stuck)\n";
+
 /// Threads print a line that could be one of a list.
 const PRINTS: &[u8] =
     b"int x, w; void worker(int self) { int i, f; __transaction_atomic { f = w; w = 1; } if (f == 0 && self == 1) { for (i = 0; i < 2000; i++) __transaction_atomic { x = x + 1; } } printf(\"== stuck --order 0\\n\"); }\n// txc: --limit 300 (stuck)\n";
@@ -42,8 +55,12 @@ const PRINTS: &[u8] =
 /// An invalid question.
 const BAD: &[u8] = b"void worker(int self) { }\n  // txc: --threads 65\n";
 
+/// A comment in the third column of line 2 that resembles a question.
+const MISSPELLED_2_3: &str =
+    "txc: a.c:2:3: not a question: its line must begin with the words // and txc:\n";
+
 fn rows() -> &'static [Row] {
-    static ROWS: [Row; 15] = [
+    static ROWS: [Row; 24] = [
         (
             "txc test a.c",
             Ok(BROKEN),
@@ -85,6 +102,70 @@ fn rows() -> &'static [Row] {
                 5,
                 "a.c:2: passed: (traps) (outcomes: 1, stuck: 0, states: 1, threads: 2; ",
                 " ms)\n2 passed, 1 failed\n",
+                "",
+            ),
+        ),
+        // a property takes too long, and a thread prints a line that reports a stuck order
+        (
+            "txc test a.c",
+            Ok(SPENT),
+            NONE,
+            (
+                4,
+                "a.c:2: undecided: --always ends --steps 100 (stuck) (spent ends --order 0; ",
+                " ms)\n0 passed, 0 failed, 1 undecided\n",
+                "",
+            ),
+        ),
+        // the findings of a comparison with a list
+        (
+            "txc test a.c",
+            Ok(EXPECTS),
+            Ok(
+                b"== outcome --order 0,1\n== thread 0: ended\n== thread 1: ended\n== memory\nx = 3\n",
+            ),
+            (
+                5,
+                "a.c:2: failed: --expect s.txt (line 5 differs; expected: x = 3; found: x = 2; ",
+                " ms)\n1 passed, 1 failed\n",
+                "",
+            ),
+        ),
+        (
+            "txc test a.c",
+            Ok(EXPECTS),
+            Ok(
+                b"== outcome --order 0,1\r\n== thread 0: ended\r\n== thread 1: ended\r\n== memory\r\nx = 2\r\n== outcomes: 1, stuck: 0, states: 4, threads: 2\r\n",
+            ),
+            (
+                5,
+                "a.c:2: failed: --expect s.txt (line 1 differs; expected: == outcome --order 0,1?; found: == outcome --order 0,1; they differ only in carriage returns; ",
+                " ms)\n1 passed, 1 failed\n",
+                "",
+            ),
+        ),
+        (
+            "txc test a.c",
+            Ok(EXPECTS),
+            Ok(
+                b"== outcome --order 0,1\n== thread 0: ended\n== thread 1: ended\n== memory\nx = 2\n== outcomes: 1, stuck: 0, states: 4, threads: 2\n",
+            ),
+            (
+                5,
+                "a.c:2: passed: --expect s.txt (as expected; ",
+                " ms)\n1 passed, 1 failed\n",
+                "",
+            ),
+        ),
+        // a stuck order is in the way of a comparison
+        (
+            "txc test s.txt",
+            Ok(ADDS),
+            Ok(WAITS),
+            (
+                4,
+                "s.txt:2: undecided: --refines a.c (s.txt: an order is stuck; ",
+                " ms)\n0 passed, 0 failed, 2 undecided\n",
                 "",
             ),
         ),
@@ -142,9 +223,39 @@ fn rows() -> &'static [Row] {
         ),
         (
             "txc test a.c",
-            Ok(b"int x; // txc: --always f\n//txc: --always f\n"),
+            Ok(b"int x; // txc is a program\n//txc\n/* see // txc: */\nint y = x / 2 // txc: 1\n;"),
             NONE,
             (2, "", "", "txc: no line begins with // txc:\n"),
+        ),
+        // comments that resemble a question
+        (
+            "txc test a.c",
+            Ok(b"// txc: --threads 1\n  //txc: --always f\n"),
+            NONE,
+            (2, "", "", MISSPELLED_2_3),
+        ),
+        (
+            "txc test --list a.c",
+            Ok(b"// txc:\nint x; // txc: --always f\n"),
+            NONE,
+            (
+                2,
+                "",
+                "",
+                "txc: a.c:2:8: not a question: its line must begin with the words // and txc:\n",
+            ),
+        ),
+        (
+            "txc test a.c",
+            Ok(b"// txc:\n\t //// TXC  --always f\n"),
+            NONE,
+            (2, "", "", MISSPELLED_2_3),
+        ),
+        (
+            "txc test a.c",
+            Ok(b"// txc:\n  /* txc : --always f */\n"),
+            NONE,
+            (2, "", "", MISSPELLED_2_3),
         ),
         (
             "txc test a.c s.txt",

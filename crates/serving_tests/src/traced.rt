@@ -120,7 +120,7 @@ fn traces() -> &'static [Row] {
             (
                 2,
                 b"",
-                b"txc: usage: --property worker: it is asked as int NAME(void)\n",
+                b"txc: usage: --property worker: it is not of the form int NAME(void)\n",
             ),
         ),
         (

@@ -190,21 +190,11 @@ pub(crate) fn keep_files<F: Files, E: Write>(
             format,
             task,
         } => {
-            keep(
-                alloc,
-                &NamedFile::source(file.as_str(), *verbose, *format),
-                files,
-                &mut kept,
-                err,
-            )?;
+            let source = NamedFile::source(file.as_str(), *verbose, *format);
+            keep(alloc, &source, files, &mut kept, err)?;
             if let Some(name) = schedule_of(task) {
-                keep(
-                    alloc,
-                    &NamedFile::whole(name, *verbose, *format),
-                    files,
-                    &mut kept,
-                    err,
-                )?;
+                let schedule = NamedFile::whole(name, *verbose, *format);
+                keep(alloc, &schedule, files, &mut kept, err)?;
             }
         }
         Request::Certify {
@@ -213,27 +203,12 @@ pub(crate) fn keep_files<F: Files, E: Write>(
             format,
             claim,
         } => {
-            keep(
-                alloc,
-                &NamedFile::source(file.as_str(), *verbose, *format),
-                files,
-                &mut kept,
-                err,
-            )?;
-            keep(
-                alloc,
-                &NamedFile::whole(claim.order.as_str(), *verbose, *format),
-                files,
-                &mut kept,
-                err,
-            )?;
-            keep(
-                alloc,
-                &NamedFile::whole(claim.report.as_str(), *verbose, *format),
-                files,
-                &mut kept,
-                err,
-            )?;
+            let source = NamedFile::source(file.as_str(), *verbose, *format);
+            keep(alloc, &source, files, &mut kept, err)?;
+            let order = NamedFile::whole(claim.order.as_str(), *verbose, *format);
+            keep(alloc, &order, files, &mut kept, err)?;
+            let report = NamedFile::whole(claim.report.as_str(), *verbose, *format);
+            keep(alloc, &report, files, &mut kept, err)?;
         }
         Request::Compare {
             file,
@@ -241,20 +216,10 @@ pub(crate) fn keep_files<F: Files, E: Write>(
             format,
             comparison,
         } => {
-            keep(
-                alloc,
-                &NamedFile::source(file.as_str(), *verbose, *format),
-                files,
-                &mut kept,
-                err,
-            )?;
-            keep(
-                alloc,
-                &NamedFile::against(&comparison.against, *verbose, *format),
-                files,
-                &mut kept,
-                err,
-            )?;
+            let source = NamedFile::source(file.as_str(), *verbose, *format);
+            keep(alloc, &source, files, &mut kept, err)?;
+            let other = NamedFile::against(&comparison.against, *verbose, *format);
+            keep(alloc, &other, files, &mut kept, err)?;
         }
         Request::Ask {
             file,
@@ -268,13 +233,8 @@ pub(crate) fn keep_files<F: Files, E: Write>(
             format,
             ..
         } => {
-            keep(
-                alloc,
-                &NamedFile::source(file.as_str(), *verbose, *format),
-                files,
-                &mut kept,
-                err,
-            )?;
+            let source = NamedFile::source(file.as_str(), *verbose, *format);
+            keep(alloc, &source, files, &mut kept, err)?;
         }
         Request::Explain { .. } | Request::ExplainEnd { .. } => {}
     }

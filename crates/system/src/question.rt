@@ -59,25 +59,12 @@ pub(crate) fn asked_of(alloc: Global, file: &str, words: &[&[u8]]) -> Result<Ask
     }
 }
 
-/// The answer to a question.
+/// The answer to a question: the exit status, whether a stuck order was found, and the findings.
 #[derive(Drop)]
 pub(crate) struct QuestionAnswer {
     pub(crate) status: u8,
-    /// The notes on standard output.
-    pub(crate) found: Notes,
-    /// The notes on standard error.
-    pub(crate) told: Notes,
-}
-
-impl QuestionAnswer {
-    /// The notes on standard output, or those on standard error if there are none.
-    pub(crate) fn notes(&self) -> &[String] {
-        if self.found.notes().is_empty() {
-            self.told.notes()
-        } else {
-            self.found.notes()
-        }
-    }
+    pub(crate) has_stuck: bool,
+    pub(crate) notes: Notes,
 }
 
 /// Answers a question of a source.
@@ -94,7 +81,7 @@ pub(crate) fn answer_question<H: Threads + Wait + Clock + Sync, F: Files>(
     let answer = serve_request(rt, alloc, asked, source, Notes::new(alloc), &mut told);
     QuestionAnswer {
         status: answer.status,
-        found: answer.out,
-        told,
+        has_stuck: answer.out.has_stuck(),
+        notes: answer.out.followed_by(told),
     }
 }

@@ -11,7 +11,7 @@ use crate::question::{answer_question, asked_of, request_words};
 use crate::source::WithSource;
 use command::{TestFormat, Tests, UsageFault};
 use lex::MOST_BYTES;
-use questions::{Question, answer_expected, questions, without_expected};
+use questions::{Question, answer_expected, misspelled, questions, without_expected};
 use serving::Files;
 use std::alloc::{AllocError, Global};
 use std::io;
@@ -21,7 +21,7 @@ use std::thread::Threads;
 use std::time::{Clock, Instant};
 use verdicts::{
     Answered, Tally, Verdict, judge, list_command, report_answer, report_tally, tell_bad_question,
-    tell_long_file, tell_no_question, tell_unwritten,
+    tell_long_file, tell_misspelled, tell_no_question, tell_unwritten,
 };
 
 /// The exit status after an allocation failure, or if the output can't be written.
@@ -56,6 +56,20 @@ fn bad_question<E: Write>(
     }
 }
 
+/// Checks that no comment of a file resembles a question and is none.
+fn check_spelling<E: Write>(alloc: Global, file: &KeptFile, err: &mut E) -> Result<(), u8>
+    ensures { IfErr result (λ s. (s ≡ 2) ⊎ (s ≡ 4)) }
+{
+    match misspelled(alloc, file.bytes.as_slice()) {
+        Ok(None) => Ok(()),
+        Ok(Some(place)) => {
+            tell_misspelled(file.name.as_str(), place, err);
+            Err(UNUSABLE)
+        }
+        Err(AllocError) => Err(out_of_memory(err)),
+    }
+}
+
 /// Checks that a file is whole and its questions are requests, and counts them.
 fn check_file<E: Write>(alloc: Global, file: &KeptFile, err: &mut E) -> Result<usize, u8>
     ensures { IfErr result (λ s. (s ≡ 2) ⊎ (s ≡ 4)) }
@@ -65,6 +79,7 @@ fn check_file<E: Write>(alloc: Global, file: &KeptFile, err: &mut E) -> Result<u
         tell_long_file(name, MOST_BYTES, err);
         return Err(UNUSABLE);
     }
+    check_spelling(alloc, file, err)?;
     let Ok(questions) = questions(alloc, file.bytes.as_slice()) else {
         return Err(out_of_memory(err));
     };
@@ -188,7 +203,7 @@ fn test_question<H: Threads + Wait + Clock + Sync, F: Files, W: Write>(
         return Ok(Verdict::Refused);
     };
     let answer = answer_question(rt, alloc, &asked, source);
-    let verdict = judge(expected, answer.status, answer.found.has_stuck());
+    let verdict = judge(expected, answer.status, answer.has_stuck);
     let answered = Answered {
         file: source.name,
         line: question.line,
@@ -198,7 +213,7 @@ fn test_question<H: Threads + Wait + Clock + Sync, F: Files, W: Write>(
         status: answer.status,
         verdict,
         milliseconds: milliseconds(rt, since),
-        notes: answer.notes(),
+        notes: answer.notes.notes(),
     };
     report_answer(alloc, &answered, format, out)?;
     Ok(verdict)

@@ -169,7 +169,7 @@ fn turns_kept<A: Allocator + Copy>(
     Ok(left)
 }
 
-/// What is shown in full of the turns of these numbers.
+/// The details of the turns with these numbers.
 fn details_kept<A: Allocator + Copy>(
     alloc: A,
     details: Items<Details<A>, A>,

@@ -174,24 +174,6 @@ fn push_told<A: Allocator>(to: &mut Vec<u8, A>, turn: &TurnShown<A>) -> Result<(
     push_status(to, turn.status)
 }
 
-/// Adds what a turn reads, writes and does else.
-fn push_deeds<A: Allocator + Copy>(
-    alloc: A,
-    to: &mut Vec<u8, A>,
-    names: &[Named<A>],
-    source: Source<'_>,
-    turn: &TurnShown<A>,
-    inner: &[Inner],
-) -> Result<(), AllocError> {
-    'marks: for mark in turn.marks.as_slice() {
-        push_mark(alloc, to, names, *mark)?;
-    }
-    'inner: for one in inner {
-        push_inner(to, source, *one)?;
-    }
-    push_told(to, turn)
-}
-
 /// Adds the head of a turn's block, and the lines of its transaction.
 fn push_head<A: Allocator>(
     to: &mut Vec<u8, A>,
@@ -306,12 +288,15 @@ fn push_turn<A: Allocator + Copy>(
     details: Option<&Details<A>>,
     number: u64,
 ) -> Result<u64, AllocError> {
-    match details {
-        Some(details) => {
-            push_head(to, source, number, turn.thread, details.start)?;
-            push_deeds(alloc, to, names, source, turn, details.inner.as_slice())?;
+    if let Some(details) = details {
+        push_head(to, source, number, turn.thread, details.start)?;
+        'marks: for mark in turn.marks.as_slice() {
+            push_mark(alloc, to, names, *mark)?;
         }
-        None => {}
+        'inner: for inner in details.inner.as_slice() {
+            push_inner(to, source, *inner)?;
+        }
+        push_told(to, turn)?;
     }
     push_fold(to, number, turn)
 }

@@ -61,7 +61,7 @@ impl<A: Allocator + Copy> Nested<A> {
         }
     }
 
-    /// So many transactions are cancelled, the innermost ones.
+    /// Cancels this many transactions, the innermost ones.
     fn cancel(&mut self, levels: usize) {
         if levels > self.open.len() {
             self.is_cancelled = true;

@@ -86,30 +86,19 @@ fn put_passage<A: Allocator + Copy>(
     Ok(())
 }
 
-/// Adds a read as an object.
-fn put_read<A: Allocator + Copy>(
+/// Adds a cell as an object, with these values of it, each with its key.
+fn put_values<A: Allocator + Copy>(
     alloc: A,
     to: &mut Writer<A>,
     names: &[Named<A>],
-    mark: Mark,
+    cell: usize,
+    values: &[(&str, u64)],
 ) -> Result<(), AllocError> {
     to.begin_object()?;
-    put_cell(alloc, to, names, mark.cell)?;
-    put_value(alloc, to, "value", names, mark.cell, mark.found)?;
-    to.end_object()
-}
-
-/// Adds a write as an object.
-fn put_write<A: Allocator + Copy>(
-    alloc: A,
-    to: &mut Writer<A>,
-    names: &[Named<A>],
-    mark: Mark,
-) -> Result<(), AllocError> {
-    to.begin_object()?;
-    put_cell(alloc, to, names, mark.cell)?;
-    put_value(alloc, to, "before", names, mark.cell, mark.found)?;
-    put_value(alloc, to, "after", names, mark.cell, mark.left)?;
+    put_cell(alloc, to, names, cell)?;
+    'values: for (key, word) in values {
+        put_value(alloc, to, *key, names, cell, *word)?;
+    }
     to.end_object()
 }
 
@@ -124,7 +113,7 @@ fn put_marks<A: Allocator + Copy>(
     to.begin_array()?;
     'reads: for mark in marks {
         if !mark.is_written {
-            put_read(alloc, to, names, *mark)?;
+            put_values(alloc, to, names, mark.cell, &[("value", mark.found)])?;
         }
     }
     to.end_array()?;
@@ -132,7 +121,8 @@ fn put_marks<A: Allocator + Copy>(
     to.begin_array()?;
     'writes: for mark in marks {
         if mark.is_written {
-            put_write(alloc, to, names, *mark)?;
+            let values = [("before", mark.found), ("after", mark.left)];
+            put_values(alloc, to, names, mark.cell, &values)?;
         }
     }
     to.end_array()
@@ -275,11 +265,8 @@ pub(crate) fn push_asked_object<A: Allocator + Copy>(
     object.begin_array()?;
     'cells: for cell in 0..memory.len() {
         if is_read(cells, cell) {
-            object.begin_object()?;
-            put_cell(alloc, &mut object, names, cell)?;
-            let word = word_at(memory, cell);
-            put_value(alloc, &mut object, "value", names, cell, word)?;
-            object.end_object()?;
+            let values = [("value", word_at(memory, cell))];
+            put_values(alloc, &mut object, names, cell, &values)?;
         }
     }
     object.end_array()?;

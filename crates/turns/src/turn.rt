@@ -119,7 +119,7 @@ fn output_of<A: Allocator + Copy>(world: &World<A>, t: u32) -> &str {
     }
 }
 
-/// What is shown of a turn in full, beside its line.
+/// The details of a turn, shown in addition to its line.
 #[derive(Drop)]
 pub(crate) struct Details<A: Allocator = Global> {
     /// The offset of its transaction, if there is one.

@@ -18,7 +18,7 @@ pub struct Traced<A: Allocator = Global> {
     /// What threads do before their first turns, of those that print or terminate there.
     pub begun: Items<TurnShown<A>, A>,
     pub turns: Items<TurnShown<A>, A>,
-    /// What else is shown of each turn in full.
+    /// The details of each turn.
     pub(crate) details: Items<Details<A>, A>,
     /// The memory after the last turn.
     pub last: Vec<u64, A>,

@@ -7,7 +7,10 @@ mod report;
 mod tally;
 mod verdict;
 
-pub use list::{list_command, tell_bad_question, tell_long_file, tell_no_question, tell_unwritten};
+pub use list::{
+    list_command, tell_bad_question, tell_long_file, tell_misspelled, tell_no_question,
+    tell_unwritten,
+};
 pub use notes::Notes;
 pub use report::{Answered, report_answer, report_tally};
 pub use tally::Tally;

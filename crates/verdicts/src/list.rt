@@ -1,7 +1,7 @@
 //! Questions as commands, and invalid questions.
 
 use crate::report::write_shown;
-use questions::Expected;
+use questions::{Expected, Position};
 use std::io;
 use std::io::{ErrorKind, Write};
 
@@ -55,6 +55,12 @@ pub fn tell_bad_question<E: Write>(file: &str, line: usize, column: usize, why: 
     let _ = write!(err, ":{line}:{column}: ");
     let _ = write_shown(first_line(why), err);
     let _ = writeln!(err);
+}
+
+/// Reports that a comment resembles a question and is none. Errors of the writer are ignored.
+pub fn tell_misspelled<E: Write>(file: &str, place: Position, err: &mut E) {
+    let why = "not a question: its line must begin with the words // and txc:";
+    tell_bad_question(file, place.line, place.column, why, err);
 }
 
 /// Reports that a file is too long to be searched for questions.

@@ -17,7 +17,10 @@ pub struct Notes {
     /// The current line.
     line: Vec<u8>,
     notes: Vec<String>,
-    has_stuck: bool,
+    /// Whether the first line is one of a comparison with a list, if there is a line.
+    compares: Option<bool>,
+    /// Whether the first report is that of a stuck order, if there is a report.
+    begins_stuck: Option<bool>,
     /// Whether the last line counts stuck orders, if it is the last line of a list.
     counts_stuck: Option<bool>,
 }
@@ -37,6 +40,12 @@ fn note_of(line: &[u8]) -> Option<&[u8]> {
     }
 }
 
+/// Whether a line begins the result of a comparison with a list. All lines of that are findings.
+fn begins_comparison(line: &[u8]) -> bool {
+    line == b"as expected".as_slice()
+        || (line.starts_with(b"line ".as_slice()) && line.ends_with(b" differs".as_slice()))
+}
+
 /// Whether a text has this part.
 fn has_part(text: &[u8], part: &[u8]) -> bool {
     'places: for at in 0..text.len() {
@@ -45,6 +54,17 @@ fn has_part(text: &[u8], part: &[u8]) -> bool {
         }
     }
     false
+}
+
+/// Whether a line begins the report of a stuck order or another report. There is no answer for another line.
+fn report_begun(line: &[u8]) -> Option<bool> {
+    if line.starts_with(b"== stuck ") {
+        Some(true)
+    } else if line.starts_with(b"== thread ") {
+        Some(false)
+    } else {
+        None
+    }
 }
 
 /// Whether the last line of a list counts stuck orders. There is no answer for another line.
@@ -63,22 +83,36 @@ impl Notes {
             alloc,
             line: Vec::new(alloc),
             notes: Vec::new(alloc),
-            has_stuck: false,
+            compares: None,
+            begins_stuck: None,
             counts_stuck: None,
         }
     }
 
-    /// Whether a stuck order was found. The count of a list decides, since a thread can print any other line.
+    /// Whether a stuck order was found. Only lines that no thread can print decide: the count of a list, which is its
+    /// last line, and without a list the line before the first report.
     pub fn has_stuck(&self) -> bool {
         match self.counts_stuck {
             Some(counts) => counts,
-            None => self.has_stuck,
+            None => self.begins_stuck == Some(true),
         }
     }
 
     /// The findings.
     pub fn notes(&self) -> &[String] {
         self.notes.as_slice()
+    }
+
+    /// These notes on standard output, followed by those on standard error if there are none, or if a list is compared.
+    pub fn followed_by(self, told: Notes) -> Notes {
+        let mut all = self;
+        if all.notes.is_empty() || all.compares == Some(true) {
+            let Notes { notes, .. } = told;
+            'notes: for note in notes {
+                all.keep(note);
+            }
+        }
+        all
     }
 
     /// Keeps a note, if there is memory for it.
@@ -89,9 +123,18 @@ impl Notes {
         let _ = self.notes.push(note);
     }
 
+    /// The finding that the current line states, if any.
+    fn found(&self) -> Option<&[u8]> {
+        if self.compares == Some(true) {
+            Some(self.line.as_slice())
+        } else {
+            note_of(self.line.as_slice())
+        }
+    }
+
     /// The note of the current line, if it has one.
     fn note(&self) -> Result<Option<String>, AllocError> {
-        match note_of(self.line.as_slice()) {
+        match self.found() {
             Some(note) => Ok(Some(String::from_utf8_lossy(self.alloc, note)?)),
             None => Ok(None),
         }
@@ -99,8 +142,11 @@ impl Notes {
 
     /// Ends the current line.
     fn end_line(&mut self) {
-        if self.line.as_slice().starts_with(b"== stuck ") {
-            self.has_stuck = true;
+        if self.compares.is_none() {
+            self.compares = Some(begins_comparison(self.line.as_slice()));
+        }
+        if self.begins_stuck.is_none() {
+            self.begins_stuck = report_begun(self.line.as_slice());
         }
         self.counts_stuck = counted_stuck(self.line.as_slice());
         if let Ok(Some(note)) = self.note() {

@@ -2,6 +2,7 @@
 
 use crate::tally::Tally;
 use crate::verdict::Verdict;
+use annotations::{begin_annotation, write_message};
 use command::TestFormat;
 use json::Writer;
 use questions::Expected;
@@ -62,44 +63,9 @@ fn write_plain<W: Write>(answer: &Answered<'_>, out: &mut W) -> io::Result<()> {
     out.write_all(b")\n")
 }
 
-/// The escape of a character in a property of an annotation, if it needs one.
-fn escape_of(c: char) -> Option<&'static str> {
-    match c {
-        '%' => Some("%25"),
-        ':' => Some("%3A"),
-        ',' => Some("%2C"),
-        _ => None,
-    }
-}
-
-/// Writes the value of a property of an annotation.
-fn write_property<W: Write>(text: &str, out: &mut W) -> io::Result<()> {
-    'characters: for c in text.chars() {
-        match escape_of(c) {
-            Some(escape) => out.write_all(escape.as_bytes())?,
-            None if c.is_control() => out.write_all(b"?")?,
-            None => write!(out, "{c}")?,
-        }
-    }
-    Ok(())
-}
-
-/// Writes the message of an annotation.
-fn write_message<W: Write>(text: &str, out: &mut W) -> io::Result<()> {
-    'characters: for c in text.chars() {
-        match c {
-            '%' => out.write_all(b"%25")?,
-            _ if c.is_control() => out.write_all(b"?")?,
-            _ => write!(out, "{c}")?,
-        }
-    }
-    Ok(())
-}
-
 /// Writes an answer as a GitHub annotation.
 fn write_annotation<W: Write>(answer: &Answered<'_>, out: &mut W) -> io::Result<()> {
-    out.write_all(b"::error file=")?;
-    write_property(answer.file, out)?;
+    begin_annotation("error", answer.file, out)?;
     write!(
         out,
         ",line={},col={},title=txc test::{}: ",
