@@ -33,7 +33,7 @@ Option = collections.namedtuple("Option", "name value help")
 Command = collections.namedtuple("Command", "name about example takes options")
 
 # Options whose value is a file, and those whose value is one of some words.
-FILES, CHOICES = ["expect", "order-file", "refines", "report", "schedule"], {"format": ["short", "json", "github"]}
+FILES, CHOICES = ["admits", "expect", "order-file", "refines", "report", "schedule"], {"format": ["short", "json", "github"]}
 # The words of options of one command.
 CHOICES_OF = {("test", "format"): ["github", "json"]}
 HELP = Option("help", None, "Print help")

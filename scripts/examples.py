@@ -71,7 +71,7 @@ def transcript(path):
     """The words behind `$`, the source, the schedule or the order, the report or what else is compared, and what is shown."""
     first, shown = read(path).split("\n", 1)
     words = first.removeprefix("$ ")
-    named = (r"(examples/\S+\.c)", r"--(?:schedule|order-file) (\S+)", r"--(?:report|refines|expect) (\S+)")
+    named = (r"(examples/\S+\.c)", r"--(?:schedule|order-file) (\S+)", r"--(?:report|refines|expect|admits) (\S+)")
     files = [re.search(name, words) for name in named]
     return words, *(read(found[1]) if found else "" for found in files), shown
 

@@ -10,7 +10,11 @@ be that of `txc trace`. The number of states, up to exchanges of threads that be
 which must list as many outcomes, and a stuck order if and only if the page has a stuck state. Properties must have the
 values that `txc trace --property` reports.
 
-With --browser, Chromium opens each page of docs/explore/ at its last order, and must show the memory after it.
+A page of one order must have each of its states, and those one turn from them. The command on a page must have the
+options `-D` of the call.
+
+With --browser, Chromium opens each page of docs/explore/ at an order, and presses the buttons and keys that lead to it. It
+must show the source's memory after that order.
 """
 
 import json
@@ -34,24 +38,30 @@ COMPARED = [
     "examples/booking.c --threads 2",
     "examples/receipt.c --threads 3",
     "examples/withdraw.c --threads 2",
+    "examples/counter.c --threads 8 --order 0,1,2,3,4,5,6,7,7",
 ]
+# A program with a bound that the command line defines.
+BOUND = "int x;\nvoid worker(int self) {\n    for (int i = 0; i < N; i++) { __transaction_atomic { x = x + 1; } }\n}\n"
 NODE = r"""
 const html = require("fs").readFileSync(process.argv[1], "utf8");
 const data = JSON.parse(/<script type="application\/json" id="data">(.*?)<\/script>/s.exec(html)[1]);
 const model = new Function(/<script id="model">(.*?)<\/script>/s.exec(html)[1] + "\nreturn modelOf;")()(data);
-const search = model.search(0), turns = [];
+const search = model.search(0), turns = [], lacks = [];
 for (const state of search.found)
   for (const thread of model.all) {
+    if (model.next(state, thread) === null) { lacks.push(state); continue; }
     const order = [...model.orderTo(search.led, state), thread], path = model.path(order), last = path[order.length];
     turns.push({ order, ran: model.runs(state, thread), effects: model.effects(state, thread), memory: model.memory(last),
       threads: model.all.map(other => [model.rest(last, other).end || "waits", model.rest(last, other).printed]),
       values: data.properties.map(property => [property.name, property.values[last]]) });
   }
+const passed = model.path(data.order);
 const places = row => [...new Set(data.states[0][1])].map(
   place => model.all.filter(thread => data.states[0][1][thread] === place).map(thread => row[thread]).sort());
 const apart = new Set(search.found.map(state => JSON.stringify([data.states[state][0], places(data.states[state][1])])));
 console.log(JSON.stringify({ cells: data.cells, states: apart.size, outcomes: model.outcomes.size,
-  stuck: model.can.includes(false), turns }));
+  are_all: data.are_all, options: data.options, passes: passed.length === data.order.length + 1,
+  expands: !passed.some(state => lacks.includes(state)), stuck: model.can.includes(false), turns }));
 """
 LAST = re.compile(r"^== outcomes: (\d+), stuck: (\d+), states: (\d+)", re.M)
 ROW = re.compile(r'<tr(?: class="changed")?><td>(.*?)</td><td>(-?\d+)')
@@ -69,6 +79,13 @@ def page_of(txc, words):
     if not page.endswith("</html>\n"):
         sys.exit(f"txc explore {words}: no page")
     return page
+
+
+def run_of(words):
+    """The file, the number of threads and the definitions of a command line."""
+    parts = words.split()
+    defined = [at for at, word in enumerate(parts) if word == "-D"]
+    return parts[:3] + [word for at in defined for word in parts[at:at + 2]]
 
 
 def report_of(cells, turn):
@@ -102,10 +119,15 @@ def compare(txc, words):
         file.flush()
         done = subprocess.run(["node", "-e", NODE, file.name], capture_output=True, text=True, check=True)
     found = json.loads(done.stdout)
-    run = words.split()[:3]
-    outcomes, stuck, states = LAST.search(out_of(txc, "outcomes", *run)).groups()
-    if (found["states"], found["outcomes"], found["stuck"]) != (int(states), int(outcomes), stuck != "0"):
-        sys.exit(f"{words}: {found['states']} states, {found['outcomes']} outcomes, stuck {found['stuck']}")
+    run = run_of(words)
+    if found["options"] != " ".join(run[3:]):
+        sys.exit(f"{words}: the page has the options {found['options']}")
+    if found["are_all"]:
+        outcomes, stuck, states = LAST.search(out_of(txc, "outcomes", *run)).groups()
+        if (found["states"], found["outcomes"], found["stuck"]) != (int(states), int(outcomes), stuck != "0"):
+            sys.exit(f"{words}: {found['states']} states, {found['outcomes']} outcomes, stuck {found['stuck']}")
+    elif not (found["passes"] and found["expands"]):
+        sys.exit(f"{words}: the page lacks a state of its order, or one a turn from it")
     for turn in found["turns"]:
         order = ",".join(map(str, turn["order"]))
         report = out_of(txc, "source", *run, "--order", order)
@@ -124,21 +146,40 @@ def compare(txc, words):
     print(f"{words}: {found['states']} states, {len(found['turns'])} turns")
 
 
-def browse(browser, txc, name, words):
-    """Compares the memory that the browser shows with that of the source."""
-    run, order = words.split()[:3], "0,1,1"
+# Presses the buttons of an order's turns, then the keys that go one turn back and forward again.
+CLICKS = """<script>
+for (const thread of ORDER) document.querySelectorAll("#threads button")[thread].click();
+for (const key of ["ArrowLeft", "ArrowRight"]) dispatchEvent(new KeyboardEvent("keydown", { key }));
+</script>"""
+
+
+def shown_by(browser, address):
+    """The memory that the browser shows at an address."""
     flags = ["--headless", "--no-sandbox", "--disable-gpu", "--virtual-time-budget=5000", "--dump-dom"]
-    address = f"file://{PAGES}/{name}#order={order}"
     done = subprocess.run([browser, *flags, address], capture_output=True, text=True, check=True)
+    return dict(ROW.findall(done.stdout))
+
+
+def browse(browser, txc, name, words):
+    """Compares the memory that the browser shows with that of the source: at a link, and after clicks and keys."""
+    run, order = run_of(words), "0,1,1"
     report = out_of(txc, "source", *run, "--order", order).partition("== memory\n")[2]
     cells = {}
     for line in report.splitlines():
         of, _, values = line.partition(" = ")
         them = values.split()
         cells.update({of: them[0]} if len(them) == 1 else {f"{of}[{at}]": it for at, it in enumerate(them)})
-    if dict(ROW.findall(done.stdout)) != cells:
-        sys.exit(f"{name}: the browser shows {ROW.findall(done.stdout)}, and the source leaves {cells}")
-    print(f"{name}: shown by the browser")
+    with (
+        open(f"{PAGES}/{name}", encoding="utf-8") as page,
+        tempfile.NamedTemporaryFile("w", suffix=".html", encoding="utf-8") as clicked,
+    ):
+        clicked.write(page.read() + CLICKS.replace("ORDER", f"[{order}]"))
+        clicked.flush()
+        for address in (f"file://{PAGES}/{name}#order={order}", f"file://{clicked.name}#order="):
+            found = shown_by(browser, address)
+            if found != cells:
+                sys.exit(f"{address}: the browser shows {found}, and the source leaves {cells}")
+    print(f"{name}: shown by the browser, at a link and after clicks")
 
 
 def main():
@@ -158,6 +199,10 @@ def main():
         return 0
     for words in COMPARED:
         compare(given.txc, words)
+    with tempfile.NamedTemporaryFile("w", suffix=".c", encoding="utf-8") as file:
+        file.write(BOUND)
+        file.flush()
+        compare(given.txc, f"{file.name} --threads 2 -D N=2")
     if given.browser:
         for name, words in SHOWN.items():
             browse(given.browser, given.txc, name, words)

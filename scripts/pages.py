@@ -100,7 +100,7 @@ def main():
     described = set(re.findall(r"--([a-z][a-z-]*)", read("docs/COMMANDS.md")))
     there = options()
     wrong += [f"docs/COMMANDS.md does not describe --{it}" for it in sorted(there - described)]
-    wrong += [f"docs/COMMANDS.md describes --{it}, which is not an option" for it in sorted(described - there - {"help", "version"})]
+    wrong += [f"docs/COMMANDS.md describes --{it}, which is not an option" for it in sorted(described - there - {"help", "version", "then"})]
     print("\n".join(wrong) or f"{len(named)} pages of crates and {len(there)} options agree with the code")
     return 1 if wrong else 0
 

@@ -5,7 +5,7 @@ _txc() {
         --format)
             words='short json github'
             [[ ${COMP_WORDS[1]} == test ]] && words='github json' ;;
-        --expect | --order-file | --refines | --report | --schedule) ;;
+        --admits | --expect | --order-file | --refines | --report | --schedule) ;;
         --always | --budget | --final | --from | --limit | --memory | --order | --property | --seed | --steps | --threads | --ticks | --time) return ;;
         *)
             if ((COMP_CWORD == 1)); then
@@ -19,7 +19,7 @@ _txc() {
                     source) words='--verbose --format --threads --order --ticks --help' ;;
                     trace) words='--verbose --format --threads --order --property --full --help' ;;
                     explore) words='--verbose --format --threads --order --always --help' ;;
-                    outcomes) words='--verbose --format --threads --steps --limit --memory --time --refines --expect --always --final --keep-going --trace --help' ;;
+                    outcomes) words='--verbose --format --threads --steps --limit --memory --time --refines --expect --admits --always --final --keep-going --trace --fair --help' ;;
                     certify) words='--verbose --format --threads --order-file --report --ticks --help' ;;
                     test) words='--format --list --help' ;;
                     explain) words='--help' ;;

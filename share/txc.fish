@@ -73,10 +73,12 @@ complete -c txc -n '__fish_seen_subcommand_from outcomes' -l memory -x -d 'Limit
 complete -c txc -n '__fish_seen_subcommand_from outcomes' -l time -x -d 'Limit on the seconds of the search, 0 to 4294967295; the list may take as many more [default: no limit]'
 complete -c txc -n '__fish_seen_subcommand_from outcomes' -l refines -r -F -d 'Check that each outcome of FILE is one of the program B too, in place of the list; if not, print one that is not'
 complete -c txc -n '__fish_seen_subcommand_from outcomes' -l expect -r -F -d 'Check that the list is the text of the file LIST, byte for byte; if not, print the first line that differs'
+complete -c txc -n '__fish_seen_subcommand_from outcomes' -l admits -r -F -d 'Check that an outcome has the report in the file REPORT, byte for byte, and print its order; if not, print where the nearest one differs'
 complete -c txc -n '__fish_seen_subcommand_from outcomes' -l always -x -d 'Check that functions `int NAME(void)` of FILE return nonzero in every state, in place of the list; names are joined by commas'
 complete -c txc -n '__fish_seen_subcommand_from outcomes' -l final -x -d 'Check that functions return nonzero in every outcome, in place of the list'
 complete -c txc -n '__fish_seen_subcommand_from outcomes' -l keep-going -d 'Continue the search after each function has failed, and list all deadlocks'
 complete -c txc -n '__fish_seen_subcommand_from outcomes' -l trace -d 'Show how the first failure, deadlock and trap come about, as `txc trace` does, on standard error [default on a terminal]'
+complete -c txc -n '__fish_seen_subcommand_from outcomes' -l fair -d 'Check that every fair schedule terminates, in place of the list; if not, print an order and a cycle that never does'
 complete -c txc -n '__fish_seen_subcommand_from outcomes' -l help -d 'Print help'
 complete -c txc -n __fish_use_subcommand -a certify -d 'Check that a report is what the source prints in a given order of transactions, byte for byte'
 complete -c txc -n '__fish_seen_subcommand_from certify' -F

@@ -4,7 +4,7 @@
 use std::io;
 use std::io::Write;
 
-/// What stands for a character in a message, if the character may not occur there.
+/// The escape of a character that may not occur in a message.
 fn message_escape(c: char) -> Option<&'static str> {
     match c {
         '%' => Some("%25"),
@@ -15,7 +15,7 @@ fn message_escape(c: char) -> Option<&'static str> {
     }
 }
 
-/// What stands for a character in a property, if the character may not occur there.
+/// The escape of a character that may not occur in a property.
 fn property_escape(c: char) -> Option<&'static str> {
     match c {
         ':' => Some("%3A"),

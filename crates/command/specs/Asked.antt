@@ -9,15 +9,16 @@ use Rattle.clap.specs.Words.{IsAmong, Row, Text, all_of, fault_of, first_of, one
 use Rattle.clap.specs.declared.error.kind.ErrorKind.{ErrorKind}
 use Rattle.clap.specs.declared.error.kind.ErrorKind.TheVariants.{DisplayHelp, DisplayVersion}
 use Rattle.command.specs.declared.request.Against.{Against}
-use Rattle.command.specs.declared.request.Against.TheVariants.{Refined, Expected}
+use Rattle.command.specs.declared.request.Against.TheVariants.{Refined, Expected, Admitted}
 use Rattle.command.specs.declared.request.Claim.{Claim}
 use Rattle.command.specs.declared.request.Comparison.{Comparison}
 use Rattle.command.specs.declared.request.Coverage.{Coverage}
+use Rattle.command.specs.declared.request.FairSearch.{FairSearch}
 use Rattle.command.specs.declared.request.Format.{Format}
 use Rattle.command.specs.declared.request.Format.TheVariants.{Plain, Short, Json, Github}
 use Rattle.command.specs.declared.request.Request.{Request}
 use Rattle.command.specs.declared.request.Request.TheVariants.{Program, Certify, Compare, Ask, Cover}
-use Rattle.command.specs.declared.request.Request.TheVariants.{Explain, ExplainEnd}
+use Rattle.command.specs.declared.request.Request.TheVariants.{Fair, Explain, ExplainEnd}
 use Rattle.command.specs.declared.request.Questions.{Questions}
 use Rattle.command.specs.declared.request.Task.{Task}
 use Rattle.command.specs.declared.request.Task.TheVariants.{Check, Listing, Run, Replay, Timeline, Picture}
@@ -159,6 +160,10 @@ AreThreadsExplored given first last =
 abbrev pub IsFlagged : List Row → Text → Type 0
 IsFlagged given id = first_of id given ≡ Some (codes "true")
 
+-- a flag is not given
+abbrev pub IsUnflagged : List Row → Text → Type 0
+IsUnflagged given id = IsFlagged given id → ⊥
+
 -- these of a replay's flags are given
 pub record AreFlagged (given : List Row) (timeline picture print_schedule : Bool) : Type 0 where
   pub timeline_is : IsTrue timeline ↔ IsFlagged given (codes "timeline")
@@ -168,6 +173,7 @@ pub record AreFlagged (given : List Row) (timeline picture print_schedule : Bool
 -- outcomes are compared with nothing
 abbrev pub AreUncompared : List Row → Type 0
 AreUncompared given = (first_of (codes "refines") given ≡ None) × (first_of (codes "expect") given ≡ None)
+    × (first_of (codes "admits") given ≡ None)
 
 -- the first access that is drawn; by default, all is drawn from the beginning
 abbrev pub IsFirstDrawn : List Row → ℕ → Type 0
@@ -217,6 +223,7 @@ IsTask name given (Outcomes threads steps limit memory time traces) = (name ≡ 
     × IsNumberInRange given (codes "limit") 1000000 0 4294967295 limit
     × IsNumberInRange given (codes "memory") 1024 0 4294967295 memory × IsNumberRead (one_of (codes "time") given) time
     × AreUncompared given × (are_asked given ≡ false) × (IsTrue traces ↔ IsFlagged given (codes "trace"))
+    × IsUnflagged given (codes "fair")
 
 -- the properties to check: functions that must hold in every state, and those that must hold in every outcome
 pub record AreQuestions (given : List Row) (questions : Questions) : Type 0 where
@@ -229,6 +236,7 @@ pub record AreQuestions (given : List Row) (questions : Questions) : Type 0 wher
   pub last : option_map string_bytes questions.last ≡ first_of (codes "final") given
   pub keeps_going : IsTrue questions.keeps_going ↔ IsFlagged given (codes "keep-going")
   pub traces : IsTrue questions.traces ↔ IsFlagged given (codes "trace")
+  pub unfair : IsUnflagged given (codes "fair")
 
 -- `any` is given instead of a number of threads
 pub record IsAnyNumber (given : List Row) : Type 0 where
@@ -238,6 +246,7 @@ pub record IsAnyNumber (given : List Row) : Type 0 where
 -- the functions that must hold for every number of threads
 pub record IsCoverageAsked (given : List Row) (coverage : Coverage) : Type 0 where
   pub any : IsAnyNumber given
+  pub unfair : IsUnflagged given (codes "fair")
   pub uncompared : AreUncompared given
   pub none_last : first_of (codes "final") given ≡ None
   pub none_timed : first_of (codes "time") given ≡ None
@@ -245,6 +254,18 @@ pub record IsCoverageAsked (given : List Row) (coverage : Coverage) : Type 0 whe
   pub limit : IsNumberInRange given (codes "limit") 1000000 0 4294967295 coverage.limit
   pub memory : IsNumberInRange given (codes "memory") 1024 0 4294967295 coverage.memory
   pub always : first_of (codes "always") given ≡ Some (string_bytes coverage.always)
+
+-- the search for a fair schedule that never terminates
+pub record IsFairSearch (given : List Row) (search : FairSearch) : Type 0 where
+  pub fair : IsFlagged given (codes "fair")
+  pub uncompared : AreUncompared given
+  pub unasked : are_asked given ≡ false
+  pub threads : IsNumberInRange given (codes "threads") 2 1 64 search.threads
+  pub steps : IsNumberInRange given (codes "steps") 1000000 0 4294967295 search.steps
+  pub limit : IsNumberInRange given (codes "limit") 1000000 0 4294967295 search.limit
+  pub memory : IsNumberInRange given (codes "memory") 1024 0 4294967295 search.memory
+  pub time : IsNumberRead (one_of (codes "time") given) search.time
+  pub traces : IsTrue search.traces ↔ IsFlagged given (codes "trace")
 
 -- a file of an order, and one of a report; at most one of these and the source is standard input
 pub record AreClaimFiles (given : List Row) (order report : Text) : Type 0 where
@@ -260,21 +281,27 @@ pub record IsClaim (given : List Row) (claim : Claim) : Type 0 where
   pub files : AreClaimFiles given (string_bytes claim.order) (string_bytes claim.report)
   pub ticks : IsNumberRead (one_of (codes "ticks") given) claim.ticks
 
--- a file is given for one of two arguments, and none for the other; it and the source are not both standard input
-pub record IsGivenAlone (given : List Row) (id other file : Text) : Type 0 where
+-- a file is given for one of three arguments, and none for the others; it and the source are not both standard input
+pub record IsGivenAlone (given : List Row) (id other another file : Text) : Type 0 where
   pub named : first_of id given ≡ Some file
   pub alone : first_of other given ≡ None
+  pub single : first_of another given ≡ None
   pub not_both : IsNotBoth given file
 
 -- the other side of a comparison of outcomes
 abbrev pub IsAgainst : List Row → Against → Type 0
-IsAgainst given (Refined file) = IsGivenAlone given (codes "refines") (codes "expect") (string_bytes file)
-IsAgainst given (Expected file) = IsGivenAlone given (codes "expect") (codes "refines") (string_bytes file)
+IsAgainst given (Refined file) =
+    IsGivenAlone given (codes "refines") (codes "expect") (codes "admits") (string_bytes file)
+IsAgainst given (Expected file) =
+    IsGivenAlone given (codes "expect") (codes "refines") (codes "admits") (string_bytes file)
+IsAgainst given (Admitted file) =
+    IsGivenAlone given (codes "admits") (codes "refines") (codes "expect") (string_bytes file)
 
--- a list is of one number of threads
+-- a list is of one number of threads, and so is a report
 abbrev pub IsListedFor : Against → (first last : ℕ) → Type 0
 IsListedFor (Refined file) first last = Unit {0}
 IsListedFor (Expected file) first last = last ≡ first
+IsListedFor (Admitted file) first last = last ≡ first
 
 -- how outcomes are compared
 pub record IsComparison (given : List Row) (comparison : Comparison) : Type 0 where
@@ -305,7 +332,8 @@ IsRequest name given (Certify file verbose format claim) =
 IsRequest name given (Compare file verbose format comparison) =
     (first_of (codes "FILE") given ≡ Some (string_bytes file))
     × (IsTrue verbose ↔ IsFlagged given (codes "verbose")) × IsFormat (first_of (codes "format") given) format
-    × (name ≡ codes "outcomes") × (are_asked given ≡ false) × IsComparison given comparison
+    × (name ≡ codes "outcomes") × (are_asked given ≡ false) × IsUnflagged given (codes "fair")
+    × IsComparison given comparison
 IsRequest name given (Ask file verbose format questions) =
     (first_of (codes "FILE") given ≡ Some (string_bytes file))
     × (IsTrue verbose ↔ IsFlagged given (codes "verbose")) × IsFormat (first_of (codes "format") given) format
@@ -314,6 +342,10 @@ IsRequest name given (Cover file verbose format coverage) =
     (first_of (codes "FILE") given ≡ Some (string_bytes file))
     × (IsTrue verbose ↔ IsFlagged given (codes "verbose")) × IsFormat (first_of (codes "format") given) format
     × (name ≡ codes "outcomes") × IsCoverageAsked given coverage
+IsRequest name given (Fair file verbose format search) =
+    (first_of (codes "FILE") given ≡ Some (string_bytes file))
+    × (IsTrue verbose ↔ IsFlagged given (codes "verbose")) × IsFormat (first_of (codes "format") given) format
+    × (name ≡ codes "outcomes") × IsFairSearch given search
 IsRequest name given (Explain number) =
     (name ≡ codes "explain") × IsGiven given (codes "NN") number × (one_of (codes "N") given ≡ None)
 IsRequest name given (ExplainEnd word number) = (name ≡ codes "explain")

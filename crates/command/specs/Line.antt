@@ -90,13 +90,15 @@ outcome_states_app =
     let threads = with_rule (file_app (codes "outcomes")) (text_rule (codes "threads")) in
     let limits = with_rule (with_rule threads (text_rule (codes "steps"))) (text_rule (codes "limit")) in
     let space = with_rule (with_rule limits (text_rule (codes "memory"))) (text_rule (codes "time")) in
-    with_rule (with_rule space (text_rule (codes "refines"))) (text_rule (codes "expect"))
+    let lists = with_rule (with_rule space (text_rule (codes "refines"))) (text_rule (codes "expect")) in
+    with_rule lists (text_rule (codes "admits"))
 
 abbrev pub outcomes_app : App
 outcomes_app =
     let always = with_rule outcome_states_app (text_rule (codes "always")) in
     let last = with_rule always (text_rule (codes "final")) in
-    with_rule (with_rule last (flag_rule (codes "keep-going"))) (flag_rule (codes "trace"))
+    let traces = with_rule (with_rule last (flag_rule (codes "keep-going"))) (flag_rule (codes "trace")) in
+    with_rule traces (flag_rule (codes "fair"))
 
 abbrev pub certify_app : App
 certify_app =

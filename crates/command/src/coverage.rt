@@ -2,7 +2,7 @@
 
 ghost use Rattle.std.specs.Prelude.{◌≡◌, ◌↔◌, ℕ, IfErr, IfOk, IsTrue, codes, true, false};
 ghost use Rattle.clap.specs.Words.{found_of, rows_of};
-ghost use Rattle.command.specs.Asked.{AreThreadsExplored, IsAnyNumber, IsCoverageAsked};
+ghost use Rattle.command.specs.Asked.{AreThreadsExplored, IsAnyNumber, IsCoverageAsked, IsUnflagged};
 ghost use Rattle.command.specs.declared.request.Coverage.{Coverage};
 ghost use Rattle.command.specs.inner.Refusals.{IsOwn};
 
@@ -38,11 +38,12 @@ pub(crate) fn covers(name: &str, given: &ArgMatches<'_>) -> bool
 
 /// The functions that must hold for every number of threads, and the limits of the search.
 pub(crate) fn coverage(alloc: Global, given: &ArgMatches<'_>) -> Result<Coverage, UsageFault>
-    requires { IsAnyNumber (rows_of (found_of given.now)) }
+    requires unfair { IsUnflagged (rows_of (found_of given.now)) (codes "fair") }
+    requires any { IsAnyNumber (rows_of (found_of given.now)) }
     ensures ok { IfOk result (IsCoverageAsked (rows_of (found_of given.now))) }
     ensures err { IfErr result (IsOwn ((c : Coverage) → IsCoverageAsked (rows_of (found_of given.now)) c → ⊥)) }
 {
-    let why = "--threads any needs --always, and takes no --final, --refines or --expect";
+    let why = "--threads any needs --always, and takes no --final, --refines, --expect or --admits";
     if compares("outcomes", given) || has_text(given, "final") || !has_text(given, "always") {
         return Err(wrong(alloc, why));
     }

@@ -5,6 +5,7 @@ mod claim;
 mod comparison;
 mod coverage;
 mod definitions;
+mod fair;
 mod given;
 mod line;
 mod listed;
@@ -19,6 +20,6 @@ mod tests;
 pub use listed::listed_order;
 pub use read::{command, job};
 pub use request::{
-    Against, Asked, CheckOptions, Claim, Comparison, Coverage, Format, Job, Questions, Request,
-    Steps, Task, TestFormat, Tests, ThreadRange, UsageFault,
+    Against, Asked, CheckOptions, Claim, Comparison, Coverage, FairSearch, Format, Job, Questions,
+    Request, Steps, Task, TestFormat, Tests, ThreadRange, UsageFault,
 };

@@ -460,7 +460,14 @@ fn outcome_states<'a>(alloc: Global) -> Result<Command<'a>, AllocError>
         "LIST",
         "Check that the list is the text of the file LIST, byte for byte; if not, print the first line that differs",
     );
-    with(command, expect)
+    let command = with(command, expect);
+    let admits = text(
+        alloc,
+        "admits",
+        "REPORT",
+        "Check that an outcome has the report in the file REPORT, byte for byte, and print its order; if not, print where the nearest one differs",
+    );
+    with(command, admits)
 }
 
 /// The command that lists all outcomes.
@@ -493,7 +500,13 @@ fn outcomes<'a>(alloc: Global) -> Result<Command<'a>, AllocError>
         "trace",
         "Show how the first failure, deadlock and trap come about, as `txc trace` does, on standard error [default on a terminal]",
     );
-    with(command, trace)
+    let command = with(command, trace);
+    let fair = flag(
+        alloc,
+        "fair",
+        "Check that every fair schedule terminates, in place of the list; if not, print an order and a cycle that never does",
+    );
+    with(command, fair)
 }
 
 /// The command that certifies a report.

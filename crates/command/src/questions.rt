@@ -2,7 +2,7 @@
 
 ghost use Rattle.std.specs.Prelude.{◌≡◌, ◌||◌, IfErr, IfOk, codes, is_some, true, false};
 ghost use Rattle.clap.specs.Words.{first_of, found_of, rows_of};
-ghost use Rattle.command.specs.Asked.{AreQuestions, are_asked};
+ghost use Rattle.command.specs.Asked.{AreQuestions, IsUnflagged, are_asked};
 ghost use Rattle.command.specs.declared.request.Questions.{Questions};
 ghost use Rattle.command.specs.inner.Refusals.{IsOwn};
 
@@ -41,6 +41,7 @@ pub(crate) fn asks(name: &str, given: &ArgMatches<'_>) -> bool
 
 /// What is asked.
 pub(crate) fn questions(alloc: Global, given: &ArgMatches<'_>) -> Result<Questions, UsageFault>
+    requires unfair { IsUnflagged (rows_of (found_of given.now)) (codes "fair") }
     ensures ok { IfOk result (AreQuestions (rows_of (found_of given.now))) }
     ensures err { IfErr result (IsOwn ((q : Questions) → AreQuestions (rows_of (found_of given.now)) q → ⊥)) }
 {

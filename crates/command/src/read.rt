@@ -10,9 +10,10 @@ ghost use Rattle.command.specs.declared.request.Job.{Job};
 ghost use Rattle.command.specs.inner.Refusals.{AreNoRequest, AskNoMore, IsOwn, HasGiven, HasJob, SaysError};
 
 use crate::claim::claim;
-use crate::comparison::{compares, comparison};
+use crate::comparison::{compares, comparison, has_text};
 use crate::coverage::{coverage, covers};
 use crate::definitions::definitions;
+use crate::fair::{fair_search, is_fair};
 use crate::given::{NoNumber, flag_given, read_number, text_given, text_wanted, wrong};
 use crate::line::program;
 use crate::questions::{asks, questions};
@@ -175,6 +176,16 @@ fn asked_of(alloc: Global, name: &str, given: &ArgMatches<'_>) -> Result<Asked, 
     })
 }
 
+/// Refuses a comparison of outcomes beside properties.
+fn beside_properties(alloc: Global, given: &ArgMatches<'_>) -> UsageFault
+    ensures { IsOwn (Unit {0}) result }
+{
+    if has_text(given, "admits") {
+        return wrong(alloc, "--admits takes no --always and no --final");
+    }
+    wrong(alloc, "--always and --final want no list to compare")
+}
+
 /// The request of a command, and what is given for its arguments.
 fn request_of(alloc: Global, name: &str, given: &ArgMatches<'_>) -> Result<Request, UsageFault>
     ensures ok { IfOk result (IsRequest name.now (rows_of (found_of given.now))) }
@@ -194,6 +205,14 @@ fn request_of(alloc: Global, name: &str, given: &ArgMatches<'_>) -> Result<Reque
             claim: claim(alloc, given)?,
         });
     }
+    if is_fair(name, given) {
+        return Ok(Request::Fair {
+            file,
+            verbose,
+            format,
+            search: fair_search(alloc, given)?,
+        });
+    }
     if covers(name, given) {
         return Ok(Request::Cover {
             file,
@@ -204,7 +223,7 @@ fn request_of(alloc: Global, name: &str, given: &ArgMatches<'_>) -> Result<Reque
     }
     if compares(name, given) {
         if asks(name, given) {
-            return Err(wrong(alloc, "--always and --final want no list to compare"));
+            return Err(beside_properties(alloc, given));
         }
         return Ok(Request::Compare {
             file,

@@ -61,7 +61,8 @@ pub enum Request {
         format: Format,
         claim: Claim,
     },
-    /// Compares the outcomes of the program in a file with those of another program, or with a list of them.
+    /// Compares the outcomes of the program in a file with those of another program, with a list of them, or with a
+    /// report.
     Compare {
         file: String,
         /// Whether more of a fault is reported than its line.
@@ -84,6 +85,14 @@ pub enum Request {
         verbose: bool,
         format: Format,
         coverage: Coverage,
+    },
+    /// Checks whether every fair schedule of the program in a file terminates.
+    Fair {
+        file: String,
+        /// Whether more of a fault is reported than its line.
+        verbose: bool,
+        format: Format,
+        search: FairSearch,
     },
     /// Explains the fault of a number.
     Explain {
@@ -136,6 +145,8 @@ pub enum Against {
     Refined { file: String },
     /// The list in this file: the outcomes are to be the same. A list is of one number of threads.
     Expected { file: String },
+    /// The report in this file: an outcome is to have it. A report is of one number of threads.
+    Admitted { file: String },
 }
 
 /// The functions that must hold in the states that 1 to 64 threads reach, over at most so many states. In a turn a
@@ -170,6 +181,21 @@ pub struct Coverage {
     pub memory: u32,
     /// The names of the functions, joined by commas.
     pub always: String,
+}
+
+/// The search for a fair schedule of 1 to 64 threads that never terminates, over at most so many states. In a turn a
+/// thread makes at most so many steps of its code.
+#[derive(Debug, Drop)]
+pub struct FairSearch {
+    pub threads: u32,
+    pub steps: u32,
+    pub limit: u32,
+    /// How many MB states and list take at most.
+    pub memory: u32,
+    /// How many seconds the search takes at most.
+    pub time: Option<u32>,
+    /// Whether the trace of a schedule that never terminates is reported.
+    pub traces: bool,
 }
 
 /// How the fault of a source is reported.

@@ -4,7 +4,7 @@ ghost use Rattle.std.specs.Prelude.{◌≡◌, ◌≤◌, ◌↔◌, ℕ, List, 
 ghost use Rattle.clap.specs.Words.{first_of, found_of, rows_of};
 ghost use Rattle.command.specs.Asked.{AreCounted, AreScheduled, AreSteps, AreThreadsGiven};
 ghost use Rattle.command.specs.Asked.{AreUncompared, IsFirstDrawn, IsNotBoth, IsNumberInRange, IsOrderGiven};
-ghost use Rattle.command.specs.Asked.{IsOrderOpened, IsTask};
+ghost use Rattle.command.specs.Asked.{IsOrderOpened, IsTask, IsUnflagged};
 ghost use Rattle.command.specs.Asked.{are_asked};
 ghost use Rattle.command.specs.declared.request.Steps.{Steps};
 ghost use Rattle.command.specs.inner.Refusals.{AreNoTask, IsOutOfRange, IsOwn};
@@ -244,6 +244,7 @@ fn explore(alloc: Global, given: &ArgMatches<'_>) -> Result<Task, UsageFault>
 fn outcomes(alloc: Global, given: &ArgMatches<'_>) -> Result<Task, UsageFault>
     requires alone { AreUncompared (rows_of (found_of given.now)) }
     requires unasked { are_asked (rows_of (found_of given.now)) ≡ false }
+    requires unfair { IsUnflagged (rows_of (found_of given.now)) (codes "fair") }
     ensures ok { IfOk result (IsTask (codes "outcomes") (rows_of (found_of given.now))) }
     ensures err { IfErr result (IsOwn (AreNoTask (codes "outcomes") (rows_of (found_of given.now)))) }
 {
@@ -261,6 +262,7 @@ fn outcomes(alloc: Global, given: &ArgMatches<'_>) -> Result<Task, UsageFault>
 pub(crate) fn task(alloc: Global, name: &str, given: &ArgMatches<'_>) -> Result<Task, UsageFault>
     requires alone { name.now ≡ codes "outcomes" → AreUncompared (rows_of (found_of given.now)) }
     requires unasked { name.now ≡ codes "outcomes" → are_asked (rows_of (found_of given.now)) ≡ false }
+    requires unfair { name.now ≡ codes "outcomes" → IsUnflagged (rows_of (found_of given.now)) (codes "fair") }
     ensures ok { IfOk result (IsTask name.now (rows_of (found_of given.now))) }
     ensures err { IfErr result (IsOwn (AreNoTask name.now (rows_of (found_of given.now)))) }
 {

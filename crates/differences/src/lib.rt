@@ -41,6 +41,22 @@ pub fn difference<A: Allocator + Copy>(
     }
 }
 
+/// The first line in which a text differs from the one that is due, if there is one: its number, counted from 0.
+pub fn first_line<A: Allocator + Copy>(
+    alloc: A,
+    due: &[u8],
+    found: &[u8],
+) -> Result<Option<usize>, AllocError>
+    ensures { IfOk result (λ o. MatchOption o (found.now ≡ due.now) (IsFirstDifference due.now found.now)) }
+{
+    let due_lines = lines_of(alloc, due)?;
+    let found_lines = lines_of(alloc, found)?;
+    match first_difference(due_lines.as_slice(), found_lines.as_slice()) {
+        Some(at) => Ok(Some(at)),
+        None => Ok(None),
+    }
+}
+
 /// The lines of a text.
 fn lines_of<'a, A: Allocator>(alloc: A, text: &'a [u8]) -> Result<Vec<&'a [u8], A>, AllocError>
     ensures { IfOk result (λ v. map (λ l. l.now) v.items ≡ text_lines text.now) }

@@ -10,6 +10,8 @@ mod boxes_and_lists;
 #[cfg(test)]
 mod cores;
 #[cfg(test)]
+mod fair;
+#[cfg(test)]
 mod jobs;
 #[cfg(test)]
 mod large;

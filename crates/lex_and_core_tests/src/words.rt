@@ -687,7 +687,7 @@ fn reads_claims(rt: HostRuntime) {
 
 /// Comparisons of outcomes.
 fn comparisons() -> &'static [Row] {
-    static ROWS: [Row; 10] = [
+    static ROWS: [Row; 18] = [
         (
             "txc|outcomes|a.c|--refines|b.c",
             br#"Ok(Compare { file: "a.c", verbose: false, format: Plain, comparison: Comparison { threads: ThreadRange { first: 2, last: 2 }, steps: 1000000, limit: 1000000, memory: 1024, time: None, against: Refined { file: "b.c" } } })"#,
@@ -729,6 +729,39 @@ fn comparisons() -> &'static [Row] {
         (
             "txc|outcomes|a.c|--refines=b.c|--always=p",
             br#"Err(Wrong { text: "txc: usage: --always and --final want no list to compare\n" })"#,
+        ),
+        // a report
+        (
+            "txc|outcomes|a.c|--admits|r",
+            br#"Ok(Compare { file: "a.c", verbose: false, format: Plain, comparison: Comparison { threads: ThreadRange { first: 2, last: 2 }, steps: 1000000, limit: 1000000, memory: 1024, time: None, against: Admitted { file: "r" } } })"#,
+        ),
+        (
+            "txc|outcomes|a.c|--admits=-|--threads=3|--steps=5|--limit=6|--memory=7|--time=8|--format=json",
+            br#"Ok(Compare { file: "a.c", verbose: false, format: Json, comparison: Comparison { threads: ThreadRange { first: 3, last: 3 }, steps: 5, limit: 6, memory: 7, time: Some(8), against: Admitted { file: "-" } } })"#,
+        ),
+        (
+            "txc|outcomes|-|--admits=-",
+            br#"Err(Wrong { text: "txc: usage: FILE and REPORT can't both be -\n" })"#,
+        ),
+        (
+            "txc|outcomes|a.c|--admits=r|--expect=l",
+            br#"Err(Wrong { text: "txc: usage: one of --expect and --admits\n" })"#,
+        ),
+        (
+            "txc|outcomes|a.c|--admits=r|--refines=b.c",
+            br#"Err(Wrong { text: "txc: usage: one of --refines and --admits\n" })"#,
+        ),
+        (
+            "txc|outcomes|a.c|--admits=r|--threads=2..3",
+            br#"Err(Wrong { text: "txc: usage: --admits needs one number of threads\n" })"#,
+        ),
+        (
+            "txc|outcomes|a.c|--admits=r|--final=p",
+            br#"Err(Wrong { text: "txc: usage: --admits takes no --always and no --final\n" })"#,
+        ),
+        (
+            "txc|outcomes|a.c|--admits=r|--threads=any|--always=p",
+            br#"Err(Wrong { text: "txc: usage: --threads any needs --always, and takes no --final, --refines, --expect or --admits\n" })"#,
         ),
     ];
     &ROWS
@@ -791,11 +824,11 @@ fn coverages() -> &'static [Row] {
         ),
         (
             "txc|outcomes|a.c|--threads=any",
-            br#"Err(Wrong { text: "txc: usage: --threads any needs --always, and takes no --final, --refines or --expect\n" })"#,
+            br#"Err(Wrong { text: "txc: usage: --threads any needs --always, and takes no --final, --refines, --expect or --admits\n" })"#,
         ),
         (
             "txc|outcomes|a.c|--threads=any|--always=p|--final=p",
-            br#"Err(Wrong { text: "txc: usage: --threads any needs --always, and takes no --final, --refines or --expect\n" })"#,
+            br#"Err(Wrong { text: "txc: usage: --threads any needs --always, and takes no --final, --refines, --expect or --admits\n" })"#,
         ),
         (
             "txc|outcomes|a.c|--threads=any|--always=p|--time=5",
@@ -803,7 +836,7 @@ fn coverages() -> &'static [Row] {
         ),
         (
             "txc|outcomes|a.c|--threads=any|--always=p|--refines=b.c",
-            br#"Err(Wrong { text: "txc: usage: --threads any needs --always, and takes no --final, --refines or --expect\n" })"#,
+            br#"Err(Wrong { text: "txc: usage: --threads any needs --always, and takes no --final, --refines, --expect or --admits\n" })"#,
         ),
         (
             "txc|outcomes|a.c|--threads=any|--always=p|-D|N=3",

@@ -17,24 +17,20 @@ pub struct RestShown<A: Allocator = Global> {
     pub printed: Text<A>,
 }
 
-/// The cells that a turn reads before it writes them, and those that it writes.
-#[derive(Drop)]
-pub struct Touched<A: Allocator = Global> {
-    pub reads: Items<u32, A>,
-    pub writes: Items<u32, A>,
-}
+/// The number of no state.
+pub const NO_STATE: u32 = 4294967295;
 
 /// The states that threads reach, and the turns that lead from each to another one. State 0 is the first one.
-#[derive(Drop)]
-pub struct States<A: Allocator = Global> {
-    /// The words of each state's memory, one state after another.
-    pub words: Vec<u64, A>,
-    /// The numbers of the rests of each state's threads.
-    pub rests: Vec<u32, A>,
-    /// The state after the turn of each thread in each state.
-    pub next: Vec<u32, A>,
-    /// The number of the cells that the turn reads and writes.
-    pub touched: Vec<u32, A>,
+#[derive(Clone, Copy)]
+pub struct States<'a> {
+    /// For each state the words of its memory, and then for each thread the number of its rest.
+    pub rows: &'a [u64],
+    /// For each state and each thread the state after its turn, or `NO_STATE` if the page lacks it.
+    pub targets: &'a [u32],
+    /// For each state and each thread the number of the cells that its turn reads and writes.
+    pub turns: &'a [u32],
+    /// Whether these are all states.
+    pub are_all: bool,
 }
 
 /// A property: a function of the program, and its value in each state.
@@ -49,15 +45,20 @@ pub struct PropertyShown<A: Allocator = Global> {
 #[derive(Clone, Copy)]
 pub struct Page<'a, A: Allocator = Global> {
     pub file: &'a str,
+    /// The options of the call that change the source.
+    pub options: &'a str,
     /// The source.
     pub text: &'a str,
     pub threads: u32,
     /// The order at which the page opens.
     pub order: &'a [u32],
     pub globals: &'a [Named<A>],
-    pub states: &'a States<A>,
-    /// The rests and cells to which the numbers of the states refer.
+    /// How many cells they have.
+    pub cells: usize,
+    pub states: States<'a>,
+    /// The rests to which the numbers of the states refer.
     pub rests: &'a [RestShown<A>],
-    pub touched: &'a [Touched<A>],
+    /// The cells that turns read before they write them, and those that they write.
+    pub touched: &'a [(Items<u32, A>, Items<u32, A>)],
     pub properties: &'a [PropertyShown<A>],
 }

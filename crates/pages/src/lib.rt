@@ -10,5 +10,5 @@ pub mod laws;
 mod page;
 mod text;
 
-pub use content::{Page, PropertyShown, RestShown, States, Touched};
+pub use content::{NO_STATE, Page, PropertyShown, RestShown, States};
 pub use page::page_text;

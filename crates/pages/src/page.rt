@@ -1,5 +1,9 @@
 //! The whole page.
 
+ghost use Rattle.std.specs.Prelude.{◌≡◌, IfOk};
+ghost use Rattle.pages.specs.Content.{data_of};
+ghost use Rattle.pages.specs.Data.{page_bytes};
+
 use crate::content::Page;
 use crate::data::data_text;
 use crate::escaped::push_escaped;
@@ -10,7 +14,9 @@ use std::alloc::{AllocError, Allocator};
 pub fn page_text<A: Allocator + Copy>(
     alloc: A,
     page: &Page<'_, A>,
-) -> Result<Vec<u8, A>, AllocError> {
+) -> Result<Vec<u8, A>, AllocError>
+    ensures { IfOk result (λ page_text. page_text.items ≡ page_bytes (data_of page.now)) }
+{
     let data = data_text(alloc, page)?;
     let mut text = Vec::from_slice(alloc, HEAD)?;
     push_escaped(&mut text, data.as_slice())?;

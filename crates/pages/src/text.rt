@@ -74,7 +74,8 @@ code{user-select:all;overflow-wrap:anywhere}
 pub(crate) const TAIL: &[u8] = br##"</script>
 <script id="model">
 "use strict";
-// The states and turns of a page, as functions. A state is a number, and so is a thread; 0 is the first state.
+// The states and turns of a page, as functions. A state is a number, and so is a thread; 0 is the first state. A state
+// that the page lacks is null.
 function modelOf(data) {
   const states = data.states, threads = data.threads;
   const memory = state => states[state][0];
@@ -84,10 +85,14 @@ function modelOf(data) {
   const all = [...Array(threads).keys()];
   const isEnd = state => !all.some(thread => runs(state, thread));
 
-  // The states that an order passes, the first one included.
+  // The states that an order passes, the first one included, up to the first one that the page lacks.
   function path(order) {
     const passed = [0];
-    for (const thread of order) passed.push(next(passed[passed.length - 1], thread));
+    for (const thread of order) {
+      const to = next(passed[passed.length - 1], thread);
+      if (to === null) break;
+      passed.push(to);
+    }
     return passed;
   }
 
@@ -109,7 +114,7 @@ function modelOf(data) {
     for (const state of found)
       for (const thread of all) {
         const to = next(state, thread);
-        if (!led.has(to)) { led.set(to, [state, thread]); found.push(to); }
+        if (to !== null && !led.has(to)) { led.set(to, [state, thread]); found.push(to); }
       }
     return { found, led };
   }
@@ -125,7 +130,7 @@ function modelOf(data) {
   function ending() {
     const sources = states.map(() => []), can = states.map(() => false), work = [];
     for (let state = 0; state < states.length; state++) {
-      for (const thread of all) sources[next(state, thread)].push(state);
+      for (const thread of all) if (next(state, thread) !== null) sources[next(state, thread)].push(state);
       if (isEnd(state)) { can[state] = true; work.push(state); }
     }
     for (const state of work)
@@ -147,8 +152,11 @@ function modelOf(data) {
 const model = modelOf(JSON.parse(document.getElementById("data").textContent)), data = model.data;
 const COLORS = ["#0b5cad", "#a8480a", "#1f7a33", "#6639ba", "#a4262c", "#0b6e6e", "#7a5d00", "#545d68"];
 const MOST_SHOWN = 12;
+const PART = "The program has too many states for a page. This one has the states of one order, and those one turn from "
+  + "it. It does not show what else can be reached.";
 // The order, and how many of its turns are made.
 let order = [], made = 0;
+const lines = data.source.replace(/\r?\n$/, "").split(/\r?\n/);
 
 const element = id => document.getElementById(id);
 function make(kind, className, ...inside) {
@@ -173,8 +181,8 @@ const listed = rest => rest.end ? rest.end : rest.line + ": " + rest.words;
 
 // Makes an order the shown one, after so many of its turns.
 function show(turnsOf, count) {
-  order = turnsOf;
-  made = count;
+  order = turnsOf.slice(0, model.path(turnsOf).length - 1);
+  made = Math.min(count, order.length);
   const at = made < order.length ? "&at=" + made : "";
   history.replaceState(null, "", "#order=" + order.join(",") + at);
   draw();
@@ -184,7 +192,7 @@ function play(thread) {
   if (order[made] === thread) show(order, made + 1);
   else show([...done, thread], made + 1);
 }
-// Puts a continuation behind the turns that are made.
+// Puts a continuation after the turns that are made.
 function follow(more) { show([...order.slice(0, made), ...more], made); }
 function move(count) { show(order, Math.max(0, Math.min(order.length, count))); }
 
@@ -195,7 +203,7 @@ function drawSource(state) {
       const line = model.rest(state, thread).line;
       marks.set(line, [...(marks.get(line) || []), thread]);
     }
-  element("lines").replaceChildren(...data.source.map((text, index) => {
+  element("lines").replaceChildren(...lines.map((text, index) => {
     const here = marks.get(index + 1) || [];
     return make("div", here.length ? "here" : "", make("i", "", String(index + 1)), make("span", "", text || " "),
       make("b", "", ...here.map(tag)));
@@ -205,8 +213,9 @@ function drawSource(state) {
 function drawThreads(state) {
   element("threads").replaceChildren(...model.all.map(thread => {
     const it = button(listed(model.rest(state, thread)), () => play(thread), [tag(thread)]);
-    it.disabled = !model.runs(state, thread);
-    it.title = thread < 10 ? "key " + thread : "";
+    const lacks = model.next(state, thread) === null;
+    it.disabled = !model.runs(state, thread) || lacks;
+    it.title = lacks ? "not on this page" : thread < 10 ? "key " + thread : "";
     return it;
   }));
   const back = button("\u2190 back", () => move(made - 1)), ahead = button("forward \u2192", () => move(made + 1));
@@ -287,7 +296,12 @@ function drawFrom(state, search) {
     if (values[state] !== "1") continue;
     shown.push(shortest(search, it => values[it] === "0", "Show how " + name + " fails")
       || shortest(search, it => values[it] === "?", "Show where " + name + " takes too many ticks")
-      || make("p", "good", name + " holds in every state from here (" + search.found.length + ")"));
+      || (data.are_all
+        ? make("p", "good", name + " holds in every state from here (" + search.found.length + ")") : ""));
+  }
+  if (!data.are_all) {
+    element("from").replaceChildren(make("p", "", PART), ...shown);
+    return;
   }
   if (!model.can[state]) shown.push(make("p", "bad", "Stuck: no order lets all threads end"));
   else shown.push(shortest(search, it => !model.can[it], "Show how it gets stuck")
@@ -308,7 +322,8 @@ function draw() {
   const path = model.path(order), state = path[made], search = model.search(state);
   const done = order.slice(0, made).join(",");
   element("command").textContent =
-    "txc trace " + data.file + " --threads " + data.threads + " --order " + (done || "''");
+    "txc trace " + data.file + (data.options ? " " + data.options : "") + " --threads " + data.threads + " --order "
+    + (done || "''");
   drawSource(state);
   drawThreads(state);
   drawLog(path);
@@ -322,6 +337,7 @@ function load() {
   const named = /^#order=([\d,]*)(?:&at=(\d+))?$/.exec(location.hash);
   const list = named ? named[1].split(",").filter(word => word).map(Number) : data.order;
   order = list.filter(thread => thread < data.threads);
+  order = order.slice(0, model.path(order).length - 1);
   made = named && named[2] !== undefined ? Math.min(+named[2], order.length) : order.length;
   draw();
 }
@@ -334,13 +350,15 @@ addEventListener("keydown", event => {
   else if (event.key === "Home") move(0);
   else if (event.key === "End") move(order.length);
   else if (/^\d$/.test(event.key) && +event.key < data.threads) {
-    if (model.runs(model.path(order)[made], +event.key)) play(+event.key);
+    const state = model.path(order)[made];
+    if (model.runs(state, +event.key) && model.next(state, +event.key) !== null) play(+event.key);
   } else return;
   event.preventDefault();
 });
-document.title = data.file + ": every order of " + data.threads + " threads";
+document.title = data.file + ": " + (data.are_all ? "every" : "one") + " order of " + data.threads + " threads";
 element("title").textContent = data.file;
-element("size").textContent = data.threads + " threads, " + data.states.length + " states";
+element("size").textContent = data.threads + " threads, " + data.states.length + " states"
+  + (data.are_all ? "" : " of more");
 load();
 </script>
 </html>

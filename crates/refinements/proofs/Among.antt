@@ -56,7 +56,7 @@ neither xs x z none ne (inl h) = none h
 neither xs x z none ne (inr h) = ne (just x z h)
 
 module _ {X Y : Type 0} (f : Y → X) where
-  seen_more : (xs : List Y) (i : ℕ) (x : Y) → x ≡ get_or xs i x → i < length xs → map f (take i xs) ++ f x ∷ [] ≡ map f (take (i + 1) xs)
+  pub seen_more : (xs : List Y) (i : ℕ) (x : Y) → x ≡ get_or xs i x → i < length xs → map f (take i xs) ++ f x ∷ [] ≡ map f (take (i + 1) xs)
   seen_more xs i x at lt = sym (map-append f (take i xs) (x ∷ [])) ∙ ap (map f) (ap (λ y. take i xs ++ y ∷ []) at ∙ sym (take_more xs i x lt))
 
   none_more : (xs : List Y) (i : ℕ) (x : Y) (z : X) → (Contains (map f (take i xs)) z → ⊥) → x ≡ get_or xs i x → i < length xs → (f x ≡ z → ⊥) → Contains (map f (take (i + 1) xs)) z → ⊥
@@ -68,7 +68,7 @@ module _ {X Y : Type 0} (f : Y → X) where
 
 -- ---- what is so of each, one by one
 
-all_none : {X : Type 0} (P : X → Type 0) → All P []
+pub all_none : {X : Type 0} (P : X → Type 0) → All P []
 all_none P k d lt = absurd (omega (arith, lt))
 
 module _ {X Y : Type 0} (P : X → Type 0) (f : Y → X) where

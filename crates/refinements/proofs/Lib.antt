@@ -2,3 +2,5 @@
 mod Among
 -- pieces of a text
 mod Pieces
+-- outcomes that are compared with a report
+mod Nearest

@@ -11,14 +11,20 @@ use report::{ReportedOrder, report_text};
 use std::alloc::{AllocError, Allocator};
 
 /// Adds bytes.
-fn push_bytes<A: Allocator>(text: &mut Vec<u8, A>, bytes: &[u8]) -> Result<(), AllocError>
+pub(crate) fn push_bytes<A: Allocator>(
+    text: &mut Vec<u8, A>,
+    bytes: &[u8],
+) -> Result<(), AllocError>
     ensures { OnOk result (text.new.items ≡ text.old.items ++ bytes.now) }
 {
     text.extend_from_slice(bytes)
 }
 
 /// Adds a number.
-fn push_number<A: Allocator>(text: &mut Vec<u8, A>, number: u64) -> Result<(), AllocError>
+pub(crate) fn push_number<A: Allocator>(
+    text: &mut Vec<u8, A>,
+    number: u64,
+) -> Result<(), AllocError>
     ensures { OnOk result (text.new.items ≡ text.old.items ++ decimal number) }
 {
     push_bytes(text, Buffer::new().format(number).as_bytes())
@@ -36,7 +42,10 @@ fn push_others<A: Allocator>(text: &mut Vec<u8, A>, threads: &[u32]) -> Result<(
 }
 
 /// Adds an order, as a word of a command line.
-fn push_order<A: Allocator>(text: &mut Vec<u8, A>, order: &[u32]) -> Result<(), AllocError>
+pub(crate) fn push_order<A: Allocator>(
+    text: &mut Vec<u8, A>,
+    order: &[u32],
+) -> Result<(), AllocError>
     ensures { OnOk result (text.new.items ≡ text.old.items ++ order_word order.now) }
 {
     let [first, others @ ..] = order else {
@@ -47,7 +56,10 @@ fn push_order<A: Allocator>(text: &mut Vec<u8, A>, order: &[u32]) -> Result<(), 
 }
 
 /// Adds the number of threads, and ends the line.
-fn push_threads<A: Allocator>(text: &mut Vec<u8, A>, threads: u32) -> Result<(), AllocError>
+pub(crate) fn push_threads<A: Allocator>(
+    text: &mut Vec<u8, A>,
+    threads: u32,
+) -> Result<(), AllocError>
     ensures { OnOk result (text.new.items ≡ text.old.items ++ walk_words threads Whole) }
 {
     push_bytes(text, b", threads: ")?;

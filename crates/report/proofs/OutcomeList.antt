@@ -42,3 +42,11 @@ three_joined before a b c one two three first second third = rw (third, second, 
 
 pub two_joined : (before a b one two : List ℕ) → one ≡ before ++ a → two ≡ one ++ b → two ≡ before ++ (a ++ b)
 two_joined before a b one two first second = rw (second, first) (simp append_assoc)
+
+-- ---- pieces of a text
+
+pub three_listed : (before a b c one two three : List ℕ) → before ≡ [] → one ≡ before ++ a → two ≡ one ++ b → three ≡ two ++ c → three ≡ a ++ b ++ c
+three_listed before a b c one two three none first second third = rw (third, second, first, none) (simp append_assoc)
+
+pub five_listed : (before a b c d e one two three four five : List ℕ) → before ≡ [] → one ≡ before ++ a → two ≡ one ++ b → three ≡ two ++ c → four ≡ three ++ d → five ≡ four ++ e → five ≡ a ++ b ++ c ++ d ++ e
+five_listed before a b c d e one two three four five none first second third fourth fifth = rw (fifth, fourth, third, second, first, none) (simp append_assoc)

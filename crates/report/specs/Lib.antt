@@ -18,6 +18,8 @@ pub mod PropertyViews
 pub mod Coverings
 -- their Rust types as plain ones
 pub mod CoveringViews
+-- the text of the findings about fair schedules
+pub mod Fair
 -- the orders of a set
 pub mod Listed
 -- definitions for private functions alone

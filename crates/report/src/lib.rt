@@ -1,10 +1,11 @@
 //! Reports: the results of a run, a replay or a run of the source, as text; lists of outcomes and of stuck orders, each
-//! with a report; the findings about properties; and the line of each step of a replay.
+//! with a report; the findings about properties and about fair schedules; and the line of each step of a replay.
 #![tactic(auto)]
 
 mod copied;
 mod coverings;
 mod each_once;
+mod fair;
 mod outcome_list;
 mod pieces;
 mod printed;
@@ -16,6 +17,7 @@ mod same;
 mod timeline;
 
 pub use coverings::{CoveredFinding, CoveredProperty, coverings_text};
+pub use fair::{endless_text, open_text};
 pub use outcome_list::{ReportedOrder, WalkEnd, list_text};
 pub use pieces::{Piece, ThreadSeen, pieces_of, report_pieces};
 pub use printed::{End, Printed, Shown, ThreadShown};

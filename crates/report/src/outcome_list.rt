@@ -48,7 +48,10 @@ fn push_others<A: Allocator>(list: &mut Vec<u8, A>, threads: &[u32]) -> Result<(
 }
 
 /// Adds an order, as a word of a command line.
-fn push_order<A: Allocator>(list: &mut Vec<u8, A>, order: &[u32]) -> Result<(), AllocError>
+pub(crate) fn push_order<A: Allocator>(
+    list: &mut Vec<u8, A>,
+    order: &[u32],
+) -> Result<(), AllocError>
     ensures { OnOk result (list.new.items ≡ list.old.items ++ order_word order.now) }
 {
     let [first, others @ ..] = order else {

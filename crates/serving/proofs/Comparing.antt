@@ -4,7 +4,7 @@ use Rattle.std.specs.Prelude.{IfSome, codes, string_bytes}
 use Rattle.std.specs.Global.{Global}
 use Rattle.std.specs.declared.string.String.{String}
 use Rattle.command.specs.declared.request.Against.{Against}
-use Rattle.command.specs.declared.request.Against.TheVariants.{Refined, Expected}
+use Rattle.command.specs.declared.request.Against.TheVariants.{Refined, Expected, Admitted}
 use Rattle.command.specs.declared.request.Comparison.{Comparison}
 use Rattle.differences.specs.Texts.{IsFirstDifference, difference_text}
 use Rattle.syntax.specs.Tree.{Program}
@@ -58,6 +58,7 @@ nothing_compared_written c other text old new same = known_all (λ bytes. Writes
 pub lacks_code : (against : Against) (other : Option (List ℕ)) (text : List ℕ) → IsRefused text → HaveNoCode against other text
 lacks_code (Refined file) other text is = inl (refused_text text is)
 lacks_code (Expected file) other text is = refused_text text is
+lacks_code (Admitted file) other text is = refused_text text is
 
 -- ---- by the other side of the comparison
 
@@ -120,14 +121,14 @@ module _ (IsAll : Type 0) (list expected : List ℕ) (status : ℕ) (old new : O
 -- ---- outcomes of another program
 
 -- an order of a list, by its report
-one_with : (xs : List ReportedOrder) (k : ℕ) (shown d : Printed) → k < length (reports xs) → get_or (reports xs) k d ≡ shown → (u : ReportedOrder) × Contains xs u × (u.shown ≡ shown)
+pub one_with : (xs : List ReportedOrder) (k : ℕ) (shown d : Printed) → k < length (reports xs) → get_or (reports xs) k d ≡ shown → (u : ReportedOrder) × Contains xs u × (u.shown ≡ shown)
 one_with [] k shown d lt e = absurd (omega (arith, lt))
 one_with (x ∷ xs) zero shown d lt e = (x, (0, omega arith, refl), e)
 one_with (x ∷ xs) (suc k) shown d lt e =
     let r = one_with xs k shown d (omega (arith, lt)) e in
     let has = r.1 in (r.0, (suc has.0, let n = has.1 in omega (arith, n), has.2), r.2)
 
-of_all : {X : Type 0} (P : X → Type 0) (xs : List X) (x : X) → All P xs → Contains xs x → P x
+pub of_all : {X : Type 0} (P : X → Type 0) (xs : List X) (x : X) → All P xs → Contains xs x → P x
 of_all P xs x all has = subst P has.2 (all has.0 x has.1)
 
 module _ (p : Program) (count : ℕ) (end : WalkEnd) (outcomes stuck : List ReportedOrder) (are : AreOutcomesOf p count end outcomes stuck) (whole : end ≡ Whole) where

@@ -4,22 +4,25 @@ use Rattle.std.specs.Prelude.{IfSome}
 use Rattle.command.specs.declared.request.Claim.{Claim}
 use Rattle.command.specs.declared.request.Comparison.{Comparison}
 use Rattle.command.specs.declared.request.Coverage.{Coverage}
+use Rattle.command.specs.declared.request.FairSearch.{FairSearch}
 use Rattle.command.specs.declared.request.Questions.{Questions}
 use Rattle.command.specs.declared.request.Task.{Task}
 use Rattle.serving.specs.Answers.{Answers}
 use Rattle.serving.specs.Certified.{CertifiesReport, WritesVerdict}
 use Rattle.serving.specs.Compared.{ComparesOutcomes, HaveNoCode, WritesComparison}
 use Rattle.serving.specs.Coverings.{AnswersCoverage, AreCoveredOfText, IsCoverageOf}
+use Rattle.serving.specs.Fair.{AnswersFair, IsFairTextOf}
 use Rattle.serving.specs.Limits.{HasNoCode}
 use Rattle.serving.specs.Properties.{AnswersQuestions, AreFoundOfText, IsToldOf, TellsProperties}
 use Rattle.serving.specs.Refusals.{IsRefused}
 use Rattle.serving.specs.Refused.{IsRefusedFor}
 use Rattle.serving.specs.Written.{IsAskedFor, WritesPart}
-use Rattle.serving.specs.inner.Serves.{ServesClaim, ServesComparison, ServesCoverage, ServesFile, ServesQuestions, ServesTask}
+use Rattle.serving.specs.inner.Serves.{ServesClaim, ServesComparison, ServesCoverage, ServesFair, ServesFile, ServesQuestions, ServesTask}
 use Rattle.serving.proofs.Answering.{tells_nothing}
 use Rattle.serving.proofs.Certifying.{no_claim_verdict, nothing_claimed}
 use Rattle.serving.proofs.Comparing.{lacks_code, nothing_compared, nothing_compared_written}
 use Rattle.serving.proofs.CoveringTold.{says_nothing}
+use Rattle.serving.proofs.FairSchedules.{none_answered}
 use Rattle.serving.proofs.InTurn.{stops}
 use Rattle.serving.proofs.Refusals.{nothing_printed, refused_task, refused_text, unread_refused}
 
@@ -167,3 +170,17 @@ module _ (coverage : Coverage) where
 
   pub coverage_opened : (known file : Option (List ℕ)) (status : ℕ) (old new : Option (List ℕ)) → known ≡ file → ServesCoverage coverage known status old new → ServesCoverage coverage file status old new
   coverage_opened known file status old new same s = subst (λ k. ServesCoverage coverage k status old new) same s
+
+-- ---- fair schedules
+
+module _ (search : FairSearch) where
+  pub fair_read : (bytes : Option (List ℕ)) (found text : List ℕ) (status : ℕ) (old new : Option (List ℕ)) → IfSome bytes (λ b. found ≡ b) → text ≡ found → ServesFair search (Some text) status old new → ServesFair search bytes status old new
+  fair_read = read 5 (λ text s o n. AnswersFair search text s o n) (λ text. HasNoCode text) (λ text o n. WritesPart (IsFairTextOf search text) o n)
+
+  pub fair_unread : (bytes : Option (List ℕ)) (status : ℕ) (old new : Option (List ℕ)) → (status ≡ 1) × IfSome bytes (λ b. IsRefused b) ⊎ (status ≡ 2) ⊎ (status ≡ 4) → new ≡ old → ServesFair search bytes status old new
+  fair_unread =
+      unread 5 (λ text s o n. AnswersFair search text s o n) (λ text. HasNoCode text) (λ text o n. WritesPart (IsFairTextOf search text) o n)
+      (λ text s o n zero three five. none_answered search text s o n zero three five) refused_text (λ text o n same. inl same) (omega arith)
+
+  pub fair_opened : (known file : Option (List ℕ)) (status : ℕ) (old new : Option (List ℕ)) → known ≡ file → ServesFair search known status old new → ServesFair search file status old new
+  fair_opened known file status old new same s = subst (λ k. ServesFair search k status old new) same s

@@ -23,6 +23,11 @@ all_taken n xs ys is short =
     let counted : length ys ≡ min n (length xs) = ap length is ∙ length-take n xs in
     is ∙ take_all n xs (omega (arith, counted, short))
 
+-- bytes that were read completely are the known ones
+pub bytes_taken : (known : Option (List ℕ)) (n : ℕ) (ys : List ℕ) → IfSome known (λ xs. ys ≡ take n xs) → length ys < n → IfSome known (λ xs. ys ≡ xs)
+bytes_taken None n ys is short = tt
+bytes_taken (Some xs) n ys is short = all_taken n xs ys is short
+
 -- a text that was read completely is that of the known bytes
 pub text_taken : {A : Type 0} (known : Option (List ℕ)) (n : ℕ) (ys : List ℕ) (s : SourceText A) → IfSome known (λ xs. ys ≡ take n xs) → length ys < n → IsTextOf ys s → IfSome known (λ xs. IsTextOf xs s)
 text_taken None n ys s is short text = tt

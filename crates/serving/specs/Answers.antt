@@ -2,7 +2,7 @@
 use Rattle.std.specs.Prelude.{ℕ, List, Option, IfSome}
 use Rattle.command.specs.declared.request.Request.{Request}
 use Rattle.command.specs.declared.request.Request.TheVariants.{Program, Certify, Compare, Ask, Cover}
-use Rattle.command.specs.declared.request.Request.TheVariants.{Explain, ExplainEnd}
+use Rattle.command.specs.declared.request.Request.TheVariants.{Fair, Explain, ExplainEnd}
 use Rattle.command.specs.declared.request.Task.{Task}
 use Rattle.command.specs.declared.request.Task.TheVariants.{Check, Listing, Run, Replay, Timeline, Picture}
 use Rattle.command.specs.declared.request.Task.TheVariants.{PrintOrder, PrintSchedule, Source, Trace, Explore, Outcomes}
@@ -10,6 +10,7 @@ use Rattle.serving.specs.Certified.{CertifiesReport, WritesVerdict}
 use Rattle.serving.specs.Checks.{Accepts, SaysAccepted}
 use Rattle.serving.specs.Compared.{ComparesOutcomes, WritesComparison}
 use Rattle.serving.specs.Coverings.{AnswersCoverage, IsCoverageOf}
+use Rattle.serving.specs.Fair.{AnswersFair, IsFairTextOf}
 use Rattle.serving.specs.Listings.{PrintsListing}
 use Rattle.serving.specs.Reports.{PrintsReport}
 use Rattle.serving.specs.InTurn.{SaysOfRange}
@@ -49,7 +50,8 @@ Answers (Source threads order ticks) schedule text status old new =
     PrintsReport (λ shown. RunsInOrder threads ticks order.items text shown × Accepts text) status old new
 Answers (Trace threads order property in_full) schedule text status old new =
     PrintsTrace (λ written shown. TracesOrder threads order.items text written shown) status old new
-Answers (Explore threads order always) schedule text status old new = PrintsPage text status old new
+Answers (Explore threads order always) schedule text status old new =
+    PrintsPage threads order.items text status old new
 Answers (Outcomes threads steps limit memory time traces) schedule text status old new =
     SaysOfRange (λ n s o w. PrintsOutcomes n text s o w) threads status old new
 
@@ -66,6 +68,8 @@ AnswersRequest (Ask file verbose format questions) schedule report bytes status 
     AnswersQuestions questions bytes status old new
 AnswersRequest (Cover file verbose format coverage) schedule report bytes status old new =
     AnswersCoverage coverage bytes status old new
+AnswersRequest (Fair file verbose format search) schedule report bytes status old new =
+    AnswersFair search bytes status old new
 AnswersRequest (Explain number) schedule report bytes status old new = Unit {0}
 AnswersRequest (ExplainEnd word number) schedule report bytes status old new = Unit {0}
 
@@ -82,6 +86,8 @@ WritesFor (Ask file verbose format questions) schedule report bytes old new =
     IfSome bytes (λ text. WritesPart (IsToldOf questions text) old new)
 WritesFor (Cover file verbose format coverage) schedule report bytes old new =
     IfSome bytes (λ text. WritesPart (IsCoverageOf coverage text) old new)
+WritesFor (Fair file verbose format search) schedule report bytes old new =
+    IfSome bytes (λ text. WritesPart (IsFairTextOf search text) old new)
 WritesFor (Explain number) schedule report bytes old new = Unit {0}
 WritesFor (ExplainEnd word number) schedule report bytes old new = Unit {0}
 
@@ -92,5 +98,6 @@ most_status (Certify file verbose format claim) = 5
 most_status (Compare file verbose format comparison) = 5
 most_status (Ask file verbose format questions) = 5
 most_status (Cover file verbose format coverage) = 5
+most_status (Fair file verbose format search) = 5
 most_status (Explain number) = 4
 most_status (ExplainEnd word number) = 4

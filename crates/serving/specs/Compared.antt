@@ -1,9 +1,10 @@
--- Comparing outcomes: with those of another program, or with a list.
+-- Comparing outcomes: with those of another program, with a list, or with a report.
 use Rattle.std.specs.Prelude.{◌⊎◌, ◌-◌, ℕ, List, Option, IfSome, string_bytes}
 use Rattle.command.specs.declared.request.Against.{Against}
-use Rattle.command.specs.declared.request.Against.TheVariants.{Refined, Expected}
+use Rattle.command.specs.declared.request.Against.TheVariants.{Refined, Expected, Admitted}
 use Rattle.command.specs.declared.request.Comparison.{Comparison}
 use Rattle.command.specs.declared.request.ThreadRange.{ThreadRange}
+use Rattle.serving.specs.Admitted.{AdmitsReport, DeniesReport}
 use Rattle.serving.specs.Expected.{SaysExpected, ShowsUnexpected}
 use Rattle.serving.specs.InTurn.{AreTextsInTurn, SaysInTurn}
 use Rattle.serving.specs.Limits.{HasNoCode}
@@ -17,21 +18,25 @@ use Rattle.serving.specs.Written.{WritesPart}
 abbrev pub name_of : Against → List ℕ
 name_of (Refined file) = string_bytes file
 name_of (Expected file) = string_bytes file
+name_of (Admitted file) = string_bytes file
 
 -- the output reports that this holds of a text and of the content of that file
 abbrev pub Confirms : Against → (count : ℕ) → (text other written : List ℕ) → Type 0
 Confirms (Refined file) count text other written = SaysRefined (string_bytes file) count text other written
 Confirms (Expected file) count text other written = SaysExpected (IsListEnding Whole count text) other written
+Confirms (Admitted file) count text other written = AdmitsReport (string_bytes file) count text other written
 
 -- the output shows where it does not hold
 abbrev pub Denies : Against → (count : ℕ) → (text other written : List ℕ) → Type 0
 Denies (Refined file) count text other written = ShowsOther (string_bytes file) count text other written
 Denies (Expected file) count text other written = ShowsUnexpected (IsListEnding Whole count text) other written
+Denies (Admitted file) count text other written = DeniesReport (string_bytes file) count text other written
 
--- how many numbers of threads follow the first: none if a list is compared, which is of one number
+-- how many numbers of threads follow the first: none if a list or a report is compared, which is of one number
 abbrev pub more_compared : Against → ThreadRange → ℕ
 more_compared (Refined file) range = range.last - range.first
 more_compared (Expected file) range = 0
+more_compared (Admitted file) range = 0
 
 -- a verdict for each number of threads in turn
 abbrev pub TellsInTurn : Against → ThreadRange → (text other : List ℕ) → (status : ℕ) → (old new : Option (List ℕ)) →
@@ -62,3 +67,4 @@ WritesComparison c other text old new = IfSome other
 abbrev pub HaveNoCode : Against → (other : Option (List ℕ)) → (text : List ℕ) → Type 0
 HaveNoCode (Refined file) other text = HasNoCode text ⊎ IfSome other (λ bytes. HasNoCode bytes)
 HaveNoCode (Expected file) other text = HasNoCode text
+HaveNoCode (Admitted file) other text = HasNoCode text

@@ -2,7 +2,7 @@
 use Rattle.std.specs.Prelude.{ℕ, List, [], Option, Some, None, IfSome, string_bytes}
 use Rattle.command.specs.declared.request.Request.{Request}
 use Rattle.command.specs.declared.request.Request.TheVariants.{Program, Certify, Compare, Ask, Cover}
-use Rattle.command.specs.declared.request.Request.TheVariants.{Explain, ExplainEnd}
+use Rattle.command.specs.declared.request.Request.TheVariants.{Fair, Explain, ExplainEnd}
 use Rattle.command.specs.declared.request.Steps.TheVariants.{Schedule}
 use Rattle.command.specs.declared.request.Task.{Task}
 use Rattle.command.specs.declared.request.Task.TheVariants.{Picture, Replay, Timeline}
@@ -10,6 +10,7 @@ use Rattle.serving.specs.Answers.{Answers}
 use Rattle.serving.specs.Certified.{CertifiesReport, WritesVerdict}
 use Rattle.serving.specs.Compared.{ComparesOutcomes, HaveNoCode, WritesComparison, name_of}
 use Rattle.serving.specs.Coverings.{AnswersCoverage, IsCoverageOf}
+use Rattle.serving.specs.Fair.{AnswersFair, IsFairTextOf}
 use Rattle.serving.specs.Limits.{HasNoCode}
 use Rattle.serving.specs.Properties.{AnswersQuestions, IsToldOf}
 use Rattle.serving.specs.Refusals.{IsRefused}
@@ -45,6 +46,8 @@ AnswersFiles (Ask file verbose format questions) contents status old new = IfSom
     (λ bytes. AnswersQuestions questions bytes status old new)
 AnswersFiles (Cover file verbose format coverage) contents status old new = IfSome (contents (string_bytes file))
     (λ bytes. AnswersCoverage coverage bytes status old new)
+AnswersFiles (Fair file verbose format search) contents status old new = IfSome (contents (string_bytes file))
+    (λ bytes. AnswersFair search bytes status old new)
 AnswersFiles (Explain number) contents status old new = Unit {0}
 AnswersFiles (ExplainEnd word number) contents status old new = Unit {0}
 
@@ -61,6 +64,8 @@ WritesForFiles (Ask file verbose format questions) contents old new = IfSome (co
     (λ bytes. WritesPart (IsToldOf questions bytes) old new)
 WritesForFiles (Cover file verbose format coverage) contents old new = IfSome (contents (string_bytes file))
     (λ bytes. WritesPart (IsCoverageOf coverage bytes) old new)
+WritesForFiles (Fair file verbose format search) contents old new = IfSome (contents (string_bytes file))
+    (λ bytes. WritesPart (IsFairTextOf search bytes) old new)
 WritesForFiles (Explain number) contents old new = Unit {0}
 WritesForFiles (ExplainEnd word number) contents old new = Unit {0}
 
@@ -75,6 +80,8 @@ RefusesSource (Compare file verbose format comparison) contents = IfSome (conten
 RefusesSource (Ask file verbose format questions) contents =
     IfSome (contents (string_bytes file)) (λ bytes. HasNoCode bytes)
 RefusesSource (Cover file verbose format coverage) contents =
+    IfSome (contents (string_bytes file)) (λ bytes. HasNoCode bytes)
+RefusesSource (Fair file verbose format search) contents =
     IfSome (contents (string_bytes file)) (λ bytes. HasNoCode bytes)
 RefusesSource (Explain number) contents = ⊥
 RefusesSource (ExplainEnd word number) contents = ⊥

@@ -48,6 +48,10 @@ pub mod Certified
 pub mod Refines
 -- lists of expected outcomes
 pub mod Expected
+-- programs that texts spell
+pub mod Spelled
+-- reports of outcomes
+pub mod Admitted
 -- outcomes that are compared
 pub mod Compared
 -- which functions of a program can be properties
@@ -56,6 +60,8 @@ pub mod Askable
 pub mod Properties
 -- properties of a source's text for every number of threads
 pub mod Coverings
+-- fair schedules of a source's threads
+pub mod Fair
 -- the response to a request
 pub mod Answers
 -- the files that a request names

@@ -2,11 +2,11 @@
 use Rattle.std.specs.Prelude.{◌≡◌, ◌≢◌, ◌⊎◌, ◌+◌, ℕ, List, [], Option, Some, None, IfSome, IsSomeAnd, Contains, IsUtf8, string_bytes}
 use Rattle.std.specs.Prelude.{take}
 use Rattle.command.specs.declared.request.Against.{Against}
-use Rattle.command.specs.declared.request.Against.TheVariants.{Refined, Expected}
+use Rattle.command.specs.declared.request.Against.TheVariants.{Refined, Expected, Admitted}
 use Rattle.command.specs.declared.request.Asked.{Asked}
 use Rattle.command.specs.declared.request.Request.{Request}
 use Rattle.command.specs.declared.request.Request.TheVariants.{Program, Certify, Compare, Ask, Cover}
-use Rattle.command.specs.declared.request.Request.TheVariants.{Explain, ExplainEnd}
+use Rattle.command.specs.declared.request.Request.TheVariants.{Fair, Explain, ExplainEnd}
 use Rattle.lex.specs.declared.lexer.TheConstants.{MOST_BYTES}
 use Rattle.parameters.specs.declared.definition.Definition.{Definition}
 use Rattle.parameters.specs.Puts.{IsPutIn, IsUsedIn}
@@ -16,6 +16,7 @@ use Rattle.serving.specs.Files.{AnswersFiles, Contents, RefusesSource, WritesFor
 abbrev pub other_of : (file : List ℕ) → Against → List ℕ
 other_of file (Refined other) = string_bytes other
 other_of file (Expected list) = file
+other_of file (Admitted report) = file
 
 -- the names of the sources of a request, twice the same if it has one
 abbrev pub sources_of : Request → Option (List ℕ × List ℕ)
@@ -24,6 +25,7 @@ sources_of (Certify file verbose format claim) = Some (string_bytes file, string
 sources_of (Compare file verbose format c) = Some (string_bytes file, other_of (string_bytes file) c.against)
 sources_of (Ask file verbose format questions) = Some (string_bytes file, string_bytes file)
 sources_of (Cover file verbose format coverage) = Some (string_bytes file, string_bytes file)
+sources_of (Fair file verbose format search) = Some (string_bytes file, string_bytes file)
 sources_of (Explain number) = None
 sources_of (ExplainEnd word number) = None
 

@@ -79,7 +79,7 @@ IsAskedFor (PrintOrder threads order) schedule text written = IsOrderSchedule th
 IsAskedFor (Source threads order ticks) schedule text written =
     IsReportOf (λ shown. RunsInOrder threads ticks order.items text shown × Accepts text) written
 IsAskedFor (Trace threads order property in_full) schedule text written = IsOrderTrace threads order.items text written
-IsAskedFor (Explore threads order always) schedule text written = IsPageOf text written
+IsAskedFor (Explore threads order always) schedule text written = IsPageOf threads order.items text written
 IsAskedFor (Outcomes threads steps limit memory time traces) schedule text written =
     AreTextsOfRange (λ n list. IsListOfOutcomes n text list) threads written
 

@@ -18,11 +18,15 @@ pub mod Exchanged
 pub mod Walked
 -- the comparison of two lists of outcomes
 pub mod Compared
+-- outcomes compared with a report
+pub mod Admitted
 -- the facts about functions that are requested as properties
 pub mod Askable
 -- the values of properties in the states of a walk
 pub mod Properties
 -- files with numbers in place of names
 pub mod Numbers
+-- findings about fair schedules
+pub mod Fair
 -- the values of properties in memories that nodes represent
 pub mod Coverings

@@ -195,7 +195,7 @@ fn some_trapped<A: Allocator>(outcomes: &[ReportedOrder<A>]) -> bool
 }
 
 /// The exit status after outcomes were listed: 4 if there may be more of them, or if some order is stuck.
-fn status_of_outcomes<A: Allocator>(found: &OutcomesFound<A>) -> u8
+pub(crate) fn status_of_outcomes<A: Allocator>(found: &OutcomesFound<A>) -> u8
     ensures within { result ≤ 4 }
     ensures not_refused { result ≢ 1 }
     ensures whole { result ≢ 4 → found.now.end ≡ Whole }

@@ -1,11 +1,12 @@
-//! `txc outcomes` with `--refines` or `--expect`: outcomes that are compared with those of another program, or with a
-//! list.
+//! `txc outcomes` with `--refines`, `--expect` or `--admits`: outcomes that are compared with those of another program,
+//! with a list, or with a report.
 
 ghost use Rattle.std.specs.Prelude.{◌≡◌, Some, true};
 ghost use Rattle.report.specs.declared.outcome_list.WalkEnd.TheVariants.{Whole};
 ghost use Rattle.serving.specs.Compared.{name_of};
 ghost use Rattle.serving.specs.inner.Serves.{ServesComparison};
 
+use crate::admitted::admit;
 use crate::expected::expect;
 use crate::files::{Files, text_of};
 use crate::listed_ends::tell_stop;
@@ -24,7 +25,9 @@ fn name_of(against: &Against) -> &str
     ensures { result.now ≡ name_of against.now }
 {
     match against {
-        Against::Refined { file } | Against::Expected { file } => file.as_str(),
+        Against::Refined { file } | Against::Expected { file } | Against::Admitted { file } => {
+            file.as_str()
+        }
     }
 }
 
@@ -65,8 +68,8 @@ fn open_other<A: Allocator + Copy, F: Files, R: Read + Drop, W: Write, E: Write>
     }
 }
 
-/// Compares the outcomes of a source with those of another program, or with a list. Reports that they match, or shows
-/// the first difference. The source is read first. The status is 0 if they match, 5 if not, and else as for `serve`.
+/// Compares the outcomes of a source with those of another program, a list or a report. Reports that they match, or
+/// shows the first difference. The source is read first. The status is 0 if they match, 5 if not, and else as for `serve`.
 pub(crate) fn compare<A: Allocator + Copy, R: Read + Drop, Q: Read + Drop, W: Write, E: Write>(
     alloc: A,
     comparison: &Comparison,
@@ -122,6 +125,7 @@ fn compare_text<A: Allocator + Copy, Q: Read + Drop, W: Write, E: Write>(
             out,
             teller,
         ),
+        Against::Admitted { file } => admit(alloc, limits, text, file.as_str(), other, out, teller),
     }
 }
 

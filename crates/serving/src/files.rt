@@ -14,6 +14,7 @@ use crate::ask::open_asked;
 use crate::certify::open_claim;
 use crate::compared::open_comparison;
 use crate::cover::open_covered;
+use crate::fair::open_fair;
 use crate::request::{explain, explain_end, serve_program};
 use crate::tell::{Detail, Teller, refuse_replay};
 use crate::timed::Timed;
@@ -21,6 +22,7 @@ use bytecode::Code;
 use command::{Request, Steps, Task};
 use lex::MOST_BYTES;
 use meaning::MeaningFault;
+use parameters::Definition;
 use replay::{Line, ScheduleFault, TurnsFault, read_schedule, seeded, turns};
 use std::alloc::{Allocator, Global};
 use std::io;
@@ -41,6 +43,11 @@ pub trait Files {
     /// Opens the file of a name.
     fn open(&self, name: &str) -> io::Result<Self::File>
         ensures { IfOk result (λ file. Self.File.remaining file ≡ contents self.now name.now) };
+
+    /// The numbers that replace names of the source.
+    fn definitions(&self) -> &[Definition] {
+        &[]
+    }
 }
 
 /// Opens the files that a request names, answers the request over them and two writers, and returns the exit status, as
@@ -71,7 +78,10 @@ pub fn serve_files<
             task,
         } => {
             let file = file.as_str();
-            let detail = Detail::of(file, *verbose, *format, err.is_terminal());
+            let is_terminal = err.is_terminal();
+            let detail = Detail::of(file, *verbose, *format, is_terminal).defining(
+                files.definitions(),
+            );
             match task {
                 Task::Outcomes { time, .. } => {
                     let mut timed = Timed::new(err, rt, *time);
@@ -126,6 +136,17 @@ pub fn serve_files<
             let mut timed = Timed::new(err, rt, None);
             let mut teller = Teller::new(&mut timed, detail);
             open_covered(alloc, file.as_str(), coverage, files, out, &mut teller)
+        }
+        Request::Fair {
+            file,
+            verbose,
+            format,
+            search,
+        } => {
+            let detail = Detail::of(file.as_str(), *verbose, *format, err.is_terminal());
+            let mut timed = Timed::new(err, rt, search.time);
+            let mut teller = Teller::new(&mut timed, detail);
+            open_fair(alloc, file.as_str(), search, files, out, &mut teller)
         }
         Request::Explain { number } => explain(*number, out, err),
         Request::ExplainEnd { word, number } => explain_end(word.as_str(), *number, out, err),

@@ -2,6 +2,7 @@
 //! exit status.
 #![tactic(auto)]
 
+mod admitted;
 mod all_outcomes;
 mod answered;
 mod ask;
@@ -17,6 +18,7 @@ mod every_number;
 mod exchanged;
 mod expected;
 mod explore;
+mod fair;
 mod files;
 mod further;
 mod globals;

@@ -21,7 +21,8 @@ fn tell_first<A: Allocator + Copy, E: Write>(
     err: &mut E,
 ) {
     if let Some(one) = orders.first() {
-        tell_trace(alloc, text, compiled, threads, one, None, err);
+        let order = one.order.as_slice();
+        tell_trace(alloc, text, compiled, threads, order, None, err);
     }
 }
 
@@ -36,7 +37,8 @@ fn tell_first_trapped<A: Allocator + Copy, E: Write>(
 ) {
     'outcomes: for one in outcomes {
         if has_trapped(one.shown.threads.as_slice()) {
-            tell_trace(alloc, text, compiled, threads, one, None, err);
+            let order = one.order.as_slice();
+            tell_trace(alloc, text, compiled, threads, order, None, err);
             return;
         }
     }
@@ -90,7 +92,8 @@ fn tell_first_failure<A: Allocator + Copy, E: Write>(
     'properties: for property in found.properties.as_slice() {
         if let Finding::Fails(one) = &property.finding {
             let name = property.name.as_str();
-            tell_trace(alloc, text, compiled, threads, one, Some(name), err);
+            let order = one.order.as_slice();
+            tell_trace(alloc, text, compiled, threads, order, Some(name), err);
             return;
         }
     }

@@ -33,7 +33,7 @@ fn other_of<'a>(file: &'a str, against: &'a Against) -> &'a str
 {
     match against {
         Against::Refined { file } => file.as_str(),
-        Against::Expected { .. } => file,
+        Against::Expected { .. } | Against::Admitted { .. } => file,
     }
 }
 
@@ -61,6 +61,12 @@ fn sources_of(request: &Request) -> Option<Sources<'_>>
             ..
         }
         | Request::Cover {
+            file,
+            verbose,
+            format,
+            ..
+        }
+        | Request::Fair {
             file,
             verbose,
             format,
@@ -109,6 +115,7 @@ impl<R: Read> Read for Opened<'_, R> {
 #[derive(Drop)]
 pub(crate) struct Numbered<'a, F> {
     files: &'a F,
+    definitions: &'a [Definition],
     file: &'a str,
     bytes: &'a [u8],
     other: &'a str,
@@ -131,6 +138,10 @@ impl<'a, F: Files> Files for Numbered<'a, F> {
             Ok(file) => Ok(Opened::Other(file)),
             Err(error) => Err(error),
         }
+    }
+
+    fn definitions(&self) -> &[Definition] {
+        self.definitions
     }
 }
 
@@ -284,6 +295,7 @@ fn serve_read<H: Threads + Wait + Clock + Sync, F: Files, W: Write, E: Write + I
         Ok((bytes, other)) => {
             let numbered = Numbered {
                 files,
+                definitions,
                 file: sources.file,
                 bytes: bytes.as_slice(),
                 other: sources.other,

@@ -147,7 +147,7 @@ fn refine_programs<A: Allocator + Copy, W: Write, E: Write>(
 }
 
 /// The outcomes of a program. The error is the exit status, and the reason is reported on standard error.
-fn outcomes_found<A: Allocator + Copy, E: Write>(
+pub(crate) fn outcomes_found<A: Allocator + Copy, E: Write>(
     alloc: A,
     limits: Limits,
     compiled: &Compiled<A>,

@@ -2,13 +2,15 @@
 //! No contract covers them.
 
 use crate::listed_ends::push_numbers;
+use crate::print::REFUTED;
 use crate::properties::PropertiesFound;
 use crate::tell::Teller;
 use crate::walked::OutcomesFound;
-use annotations::begin_annotation;
+use annotations::{begin_annotation, write_message};
 use command::Format;
 use lex::place;
 use messages::write_quoted;
+use refinements::Admission;
 use report::{End, Finding, Property, ReportedOrder, ThreadShown, WalkEnd};
 use std::alloc::Allocator;
 use std::io::Write;
@@ -28,20 +30,66 @@ pub(crate) fn tell_list<A: Allocator, E: Write>(
         Format::Json => {
             put_orders("outcome", outcomes, teller.err);
             put_orders("stuck", stuck, teller.err);
-            let _ = write!(
-                teller.err,
-                "{{\"result\":\"verdict\",\"status\":{status},\"threads\":{threads},\"outcomes\":{},\"stuck\":{},\"states\":{},\"stopped\":",
-                outcomes.len(),
-                stuck.len(),
-                found.states
-            );
-            put_stop(found.end, false, teller.err);
+            put_verdict(found, threads, status, teller.err);
         }
         Format::Github => {
             annotate_stuck(stuck, teller);
         }
         Format::Plain | Format::Short => {}
     }
+}
+
+/// Reports whether an outcome has the report in a file: the object of that outcome or of the nearest one, and the
+/// verdict; or an annotation if all outcomes differ.
+pub(crate) fn tell_admission<A: Allocator, E: Write>(
+    found: &OutcomesFound<A>,
+    threads: u32,
+    told: &Admission<'_, A>,
+    file: &str,
+    status: u8,
+    teller: &mut Teller<'_, E>,
+) {
+    match teller.detail.format {
+        Format::Json => {
+            if let Some(one) = told.one {
+                let kind = if told.is_admitted {
+                    "admitted"
+                } else {
+                    "nearest"
+                };
+                put_order_of(kind, one, teller.err);
+            }
+            put_verdict(found, threads, status, teller.err);
+        }
+        Format::Github => {
+            if status == REFUTED {
+                let _ = begin_annotation("error", teller.detail.file, teller.err);
+                let _ = teller
+                    .err
+                    .write_all(b",title=admits::no outcome has the report ");
+                let _ = write_message(file, teller.err);
+                let _ = teller.err.write_all(b"\n");
+            }
+        }
+        Format::Plain | Format::Short => {}
+    }
+}
+
+/// Writes the last object of a list.
+fn put_verdict<A: Allocator, E: Write>(
+    found: &OutcomesFound<A>,
+    threads: u32,
+    status: u8,
+    err: &mut E,
+) {
+    let _ = write!(
+        err,
+        "{{\"result\":\"verdict\",\"status\":{status},\"threads\":{threads},\"outcomes\":{},\"stuck\":{},\"states\":{},\"stopped\":",
+        found.outcomes.len(),
+        found.stuck.len(),
+        found.states
+    );
+    put_stop(found.end, false, err);
 }
 
 /// Reports the answers about properties of a program, and stuck orders.
@@ -93,10 +141,15 @@ fn put_stop<E: Write>(end: WalkEnd, is_answered: bool, err: &mut E) {
 /// Writes an object for each order.
 fn put_orders<A: Allocator, E: Write>(kind: &str, orders: &[ReportedOrder<A>], err: &mut E) {
     'orders: for one in orders {
-        let _ = write!(err, "{{\"result\":\"{kind}\"");
-        put_report(one, err);
-        let _ = err.write_all(b"}\n");
+        put_order_of(kind, one, err);
     }
+}
+
+/// Writes an object for an order.
+fn put_order_of<A: Allocator, E: Write>(kind: &str, one: &ReportedOrder<A>, err: &mut E) {
+    let _ = write!(err, "{{\"result\":\"{kind}\"");
+    put_report(one, err);
+    let _ = err.write_all(b"}\n");
 }
 
 /// Writes an order, its threads and its globals as members of an object.

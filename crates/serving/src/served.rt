@@ -8,6 +8,7 @@ use crate::ask::ask;
 use crate::certify::certify;
 use crate::compared::compare;
 use crate::cover::cover;
+use crate::fair::decide_fair;
 use crate::request::{explain, explain_end, serve_program};
 use crate::tell::{Detail, Teller};
 use command::Request;
@@ -20,19 +21,20 @@ use std::thread::Threads;
 ///
 /// The source's text is read from `source`. A schedule or a listed order is read from `schedule`, once the source has
 /// code or is accepted. A report is read from `report`, once the source has run. The other side of a comparison is also
-/// read from `report`: a list once the outcomes are found, or the source of another program.
+/// read from `report`: a list once the outcomes are found, a report once the source has code, or the source of another
+/// program.
 ///
 /// Output goes to `out`, and faults go to `err`. Text that `err` does not take is lost. The source line or the schedule
 /// line of a fault follows it if `err` is a terminal, or if the words request it. The status is:
-/// - 0 if all threads ended, all outcomes were listed, a comparison or all properties hold, the source is accepted, a
-///   report is certified, or a fault is explained;
+/// - 0 if all threads ended, all outcomes were listed, a comparison or all properties hold, every fair schedule
+///   terminates, the source is accepted, a report is certified, or a fault is explained;
 /// - 1 if a source is refused and nothing is printed;
 /// - 2 if a reader cannot be read, the source or the schedule is not UTF-8, the schedule or an order is refused, a
 ///   function may not be a property, or the words are unusable;
 /// - 3 if a thread trapped, in a run or in some outcome;
 /// - 4 if a thread neither ended nor trapped, there may be more outcomes, a step was not made, an allocation failed, or
 ///   `out` could not be written;
-/// - 5 if a report differs, a comparison shows a difference, or a property fails.
+/// - 5 if a report differs, a comparison shows a difference, a property fails, or a fair schedule never terminates.
 pub fn serve<
     H: Threads + Wait + Sync,
     R: Read + Drop,
@@ -110,6 +112,16 @@ pub fn serve<
             let detail = Detail::of(file.as_str(), *verbose, *format, is_terminal);
             let mut teller = Teller::new(err, detail);
             cover(alloc, coverage, source, out, &mut teller)
+        }
+        Request::Fair {
+            file,
+            verbose,
+            format,
+            search,
+        } => {
+            let detail = Detail::of(file.as_str(), *verbose, *format, is_terminal);
+            let mut teller = Teller::new(err, detail);
+            decide_fair(alloc, search, source, out, &mut teller)
         }
         Request::Explain { number } => explain(*number, out, err),
         Request::ExplainEnd { word, number } => explain_end(word.as_str(), *number, out, err),

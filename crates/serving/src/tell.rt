@@ -14,6 +14,7 @@ use lex::place;
 use lex::token::Span;
 use meaning::MeaningFault;
 use messages::{Fault, hints, json_line, short_line, underline, words, write_quoted, write_shown};
+use parameters::Definition;
 use replay::ScheduleFault;
 use std::alloc::Allocator;
 use std::io;
@@ -37,6 +38,8 @@ pub struct Detail<'a> {
     pub(crate) further: bool,
     /// Whether traces of a search's first findings are shown.
     pub(crate) traces: bool,
+    /// The numbers that replace names of the source.
+    pub(crate) definitions: &'a [Definition],
 }
 
 impl<'a> Detail<'a> {
@@ -63,7 +66,14 @@ impl<'a> Detail<'a> {
                 Format::Plain => is_terminal,
                 Format::Short | Format::Json | Format::Github => false,
             },
+            definitions: &[],
         }
+    }
+
+    /// The same for a source in which these numbers replace names.
+    pub(crate) fn defining(mut self, definitions: &'a [Definition]) -> Detail<'a> {
+        self.definitions = definitions;
+        self
     }
 
     /// How faults of another file's program are reported.
@@ -76,6 +86,7 @@ impl<'a> Detail<'a> {
             further: self.further,
             progress: self.progress,
             traces: self.traces,
+            definitions: &[],
         }
     }
 }
@@ -212,14 +223,21 @@ impl<E: Write> Teller<'_, E> {
     pub(crate) fn not_text(&mut self, file: &str) -> u8
         ensures { result ≡ 2 }
     {
+        self.unfit(file, "is not UTF-8")
+    }
+
+    /// Reports why the contents of a file cannot be used.
+    pub(crate) fn unfit(&mut self, file: &str, what: &str) -> u8
+        ensures { result ≡ 2 }
+    {
         match self.detail.format {
             Format::Plain => {
                 let _ = self.err.write_all(b"txc: ");
                 let _ = write_shown(file, "", self.err);
-                let _ = writeln!(self.err, " is not UTF-8");
+                let _ = writeln!(self.err, " {what}");
             }
             Format::Short | Format::Json | Format::Github => {
-                self.tell_of_file(file, "is not UTF-8");
+                self.tell_of_file(file, what);
             }
         }
         UNUSABLE

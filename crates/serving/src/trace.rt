@@ -263,11 +263,10 @@ pub(crate) fn tell_trace<A: Allocator + Copy, E: Write>(
     text: &str,
     compiled: &Compiled<A>,
     threads: u32,
-    one: &ReportedOrder<A>,
+    order: &[u32],
     property: Option<&str>,
     err: &mut E,
 ) {
-    let order = one.order.as_slice();
     let Some(lines) = lines_if_any(alloc, &compiled.code, threads, order) else {
         return;
     };

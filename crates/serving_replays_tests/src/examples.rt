@@ -270,6 +270,20 @@ type Transcript = (
 fn first_transcripts() -> &'static [Transcript] {
     static ROWS: [Transcript; 18] = [
         (
+            "txc outcomes examples/audit.c --threads 2 --admits examples/reports/audit.txt",
+            b"// Thread 0 moves 50 in two transactions. Thread 1 adds up both accounts, and can find 50 missing.\nint checking = 120, savings = 40;\n\nvoid worker(int self) {\n    int total;\n    if (self == 0) {\n        __transaction_atomic { checking = checking - 50; }\n        __transaction_atomic { savings = savings + 50; }\n    } else {\n        __transaction_atomic { total = checking + savings; }\n        printf(\"%d\\n\", total);\n    }\n}\n",
+            b"",
+            b"== thread 0: ended\n== thread 1: ended\n110\n== memory\nchecking = 70\nsavings = 90\n",
+            b"== admits examples/reports/audit.txt --threads 2 --order 0,1,0\n",
+        ),
+        (
+            "txc outcomes examples/audit_mended.c --threads 2 --admits examples/reports/audit.txt",
+            b"// Thread 0 moves 50 in one transaction, so thread 1 always finds all of the money.\nint checking = 120, savings = 40;\n\nvoid worker(int self) {\n    int total;\n    if (self == 0) {\n        __transaction_atomic {\n            checking = checking - 50;\n            savings = savings + 50;\n        }\n    } else {\n        __transaction_atomic { total = checking + savings; }\n        printf(\"%d\\n\", total);\n    }\n}\n",
+            b"",
+            b"== thread 0: ended\n== thread 1: ended\n110\n== memory\nchecking = 70\nsavings = 90\n",
+            b"== does not admit examples/reports/audit.txt, nearest outcome --threads 2 --order 0,1\nline 3 differs\noutcome: 160\nreport: 110\n",
+        ),
+        (
             "txc outcomes examples/properties/bank.c --threads any --always kept,covered",
             b"// Three accounts, and threads that move money round: each moves 10 from its own to the next, twice, in one transaction.\nint account[3] = {20, 20, 20};\n\nint kept(void) {\n    int i, sum = 0;\n    for (i = 0; i < 3; i++) sum = sum + account[i];\n    return sum == 60;\n}\n\nint covered(void) { return account[0] >= 0 && account[1] >= 0 && account[2] >= 0; }\n\nvoid worker(int self) {\n    int i, from = self % 3, to = (self + 1) % 3;\n    for (i = 0; i < 2; i++) {\n        __transaction_atomic {\n            if (account[from] >= 10) {\n                account[from] = account[from] - 10;\n                account[to] = account[to] + 10;\n            }\n        }\n    }\n}\n\n// txc: --threads 2..3 --always kept,covered\n",
             b"",
@@ -381,6 +395,12 @@ fn first_transcripts() -> &'static [Transcript] {
             b"",
             b"== not no_seat_twice --order 1,1,2,0,0,2\n== thread 0: ended\n== thread 1: ended\n== thread 2: ended\n== memory\nseats = -1\nsold = 3\ntxc: each property has its answer, so the search stopped; --keep-going continues it\ntxc: with --order 1,1,2,0,0,2\nturn thread at     seats sold\n                       2    0\n   1      1 8:5        2    .   free = seats > 0\n   2      1 10:9      >1   >1   seats = seats - 1; sold = sold + 1  ended\n   3      2 8:5        1    .   free = seats > 0\n   4      0 8:5        1    .   free = seats > 0\n   5      0 10:9      >0   >2   seats = seats - 1; sold = sold + 1  ended\n   6      2 10:9     >-1   >3   seats = seats - 1; sold = sold + 1  ended\nthread 0: ended\nthread 1: ended\nthread 2: ended\nproperty no_seat_twice: fails: seats = -1, sold = 3\n",
         ),
+    ];
+    &ROWS
+}
+
+fn second_transcripts() -> &'static [Transcript] {
+    static ROWS: [Transcript; 18] = [
         (
             "txc outcomes examples/properties/seats_broken.c --threads 2 --always no_seat_twice",
             b"// Two seats, and buyers who check in one transaction and buy in the next: three of them can buy three seats.\nint seats = 2, sold;\n\nint no_seat_twice(void) { return sold + seats == 2 && seats >= 0; }\n\nvoid worker(int self) {\n    int free;\n    __transaction_atomic { free = seats > 0; }\n    if (free) {\n        __transaction_atomic {\n            seats = seats - 1;\n            sold = sold + 1;\n        }\n    }\n}\n\n// txc: --threads 2 --always no_seat_twice\n// txc: --threads 3 --always no_seat_twice (fails)\n",
@@ -395,12 +415,6 @@ fn first_transcripts() -> &'static [Transcript] {
             b"",
             b"== always no_seat_twice: states 6, threads: 2\n== not no_seat_twice --order 1,1,2,0,0,2\n== thread 0: ended\n== thread 1: ended\n== thread 2: ended\n== memory\nseats = -1\nsold = 3\ntxc: each property has its answer, so the search stopped; --keep-going continues it\ntxc: with --order 1,1,2,0,0,2\nturn thread at     seats sold\n                       2    0\n   1      1 8:5        2    .   free = seats > 0\n   2      1 10:9      >1   >1   seats = seats - 1; sold = sold + 1  ended\n   3      2 8:5        1    .   free = seats > 0\n   4      0 8:5        1    .   free = seats > 0\n   5      0 10:9      >0   >2   seats = seats - 1; sold = sold + 1  ended\n   6      2 10:9     >-1   >3   seats = seats - 1; sold = sold + 1  ended\nthread 0: ended\nthread 1: ended\nthread 2: ended\nproperty no_seat_twice: fails: seats = -1, sold = 3\n",
         ),
-    ];
-    &ROWS
-}
-
-fn second_transcripts() -> &'static [Transcript] {
-    static ROWS: [Transcript; 18] = [
         (
             "txc certify examples/hashset.c --threads 2 --order-file examples/orders/hashset.txt --report examples/orders/hashset.out",
             b"// A set of numbers in a table of 16 places, without a lock of its own: each insertion is one step.\nint place[16], count;\n\nint insert(int key) {\n    int at = key * 7 & 15, added = 0;\n    __transaction_atomic {\n        while (place[at] != 0 && place[at] != key) at = at + 1 & 15;\n        if (place[at] == 0) {\n            place[at] = key;\n            count = count + 1;\n            added = 1;\n        }\n    }\n    return added;\n}\n\nvoid worker(int self) {\n    int i, added = 0;\n    for (i = 1; i <= 4; i++) added = added + insert(i * (self + 1));\n    printf(\"%d added\\n\", added);\n}\n",
@@ -513,6 +527,12 @@ fn second_transcripts() -> &'static [Transcript] {
             b"",
             b"fault 20: unknown name\nWhen: a name that is not declared, or not in scope\nPlace: the name\nExample: void worker(int self) { __transaction_atomic { z = 1; } }\nReported at: 1:48\nFix: declare it first: `int z;`\n",
         ),
+    ];
+    &ROWS
+}
+
+fn third_transcripts() -> &'static [Transcript] {
+    static ROWS: [Transcript; 18] = [
         (
             "txc explain budget",
             b"",
@@ -527,12 +547,55 @@ fn second_transcripts() -> &'static [Transcript] {
             b"",
             b"trap 3: an index outside its array\nWhen: an index of a read or write is negative, or not below the array's length\nExample: `int a[5];` and `a[5] = 1;` in a transaction\n",
         ),
-    ];
-    &ROWS
-}
-
-fn third_transcripts() -> &'static [Transcript] {
-    static ROWS: [Transcript; 18] = [
+        (
+            "txc outcomes examples/fair/flag.c --threads 2 --fair",
+            b"// Thread 0 raises a flag and lowers it again. A thread that looks too late waits for ever.\nint up, seen;\n\nvoid worker(int self) {\n    int raised;\n    if (self == 0) {\n        __transaction_atomic { up = 1; }\n        __transaction_atomic { up = 0; }\n    } else {\n        do { __transaction_atomic { raised = up; } } while (!raised);\n        __transaction_atomic { seen = seen + 1; }\n    }\n}\n\n// txc: --threads 2 --fair (fails)\n",
+            b"",
+            b"",
+            b"== endless --order 0,0 --then 1\ntxc: with --order 0,0,1\nturn thread at     up\n                    0\n   1      0 7:9    >1   up = 1\n   2      0 8:9    >0   up = 0  ended\n   3      1 10:14   0   raised = up\nthread 0: ended\nthread 1: next at 10:14: raised = up\n",
+        ),
+        (
+            "txc outcomes examples/fair/peterson.c --threads 2 --fair",
+            b"// Peterson's algorithm for two threads, each of which enters twice.\nint wants[2], turn, inside;\n\nint mutual_exclusion(void) { return inside <= 1; }\n\nvoid enter(int self) {\n    int other = 1 - self;\n    __transaction_atomic { wants[self] = 1; }\n    __transaction_atomic { turn = other; }\n    while (__transaction_atomic (wants[other]) && __transaction_atomic (turn == other)) ;\n}\n\nvoid leave(int self) {\n    __transaction_atomic { wants[self] = 0; }\n}\n\nvoid worker(int self) {\n    int i, me = self % 2;\n    for (i = 0; i < 2; i++) {\n        enter(me);\n        __transaction_atomic { inside = inside + 1; }\n        __transaction_atomic { inside = inside - 1; }\n        leave(me);\n    }\n}\n\n// txc: --threads 2 --always mutual_exclusion\n// txc: --threads 2 --fair\n",
+            b"",
+            b"",
+            b"== every fair schedule terminates\n",
+        ),
+        (
+            "txc outcomes examples/fair/philosophers.c --threads 3 --fair",
+            b"// Three philosophers who take the left fork, and put it back if the right one is taken. All may do so for ever.\nint fork[3], meals;\n\nvoid worker(int self) {\n    int mine, left = self % 3, right = (self + 1) % 3;\n    do {\n        do { __transaction_atomic { mine = !fork[left]; if (mine) fork[left] = 1; } } while (!mine);\n        __transaction_atomic { mine = !fork[right]; if (mine) fork[right] = 1; }\n        if (!mine) { __transaction_atomic { fork[left] = 0; } }\n    } while (!mine);\n    __transaction_atomic { meals = meals + 1; fork[left] = 0; fork[right] = 0; }\n}\n\n// txc: --threads 3\n// txc: --threads 3 --fair (fails)\n",
+            b"",
+            b"",
+            b"== endless --order '' --then 0,1,2,0,1,1,2,0,2\ntxc: with --order 0,1,2,0,1,1,2,0,2\nturn thread at     fork[0] fork[1] fork[2]\n                         0       0       0\n   1      0 7:14        >1       .       .   mine = !fork[left]; if (mine) fork[left ..\n   2      1 7:14         .      >1       .   mine = !fork[left]; if (mine) fork[left ..\n   3      2 7:14         .       .      >1   mine = !fork[left]; if (mine) fork[left ..\n   4      0 8:9          .       1       .   mine = !fork[right]; if (mine) fork[ ..\n   5      1 8:9          .       .       1   mine = !fork[right]; if (mine) fork[ ..\n   6      1 9:22         .      >0       .   fork[left] = 0\n   7      2 8:9          1       .       .   mine = !fork[right]; if (mine) fork[ ..\n   8      0 9:22        >0       .       .   fork[left] = 0\n   9      2 9:22         .       .      >0   fork[left] = 0\nthread 0: next at 7:14: mine = !fork[left]; if (mine) fork[left ..\nthread 1: next at 7:14: mine = !fork[left]; if (mine) fork[left ..\nthread 2: next at 7:14: mine = !fork[left]; if (mine) fork[left ..\n",
+        ),
+        (
+            "txc outcomes examples/fair/polite.c --threads 2 --fair",
+            b"// Two polite threads: each steps back if the other one wants to enter. Both may step back for ever.\nint wants[2], entered;\n\nvoid worker(int self) {\n    int wait, me = self % 2;\n    do {\n        __transaction_atomic { wants[me] = 1; }\n        __transaction_atomic { wait = wants[1 - me]; }\n        if (wait) { __transaction_atomic { wants[me] = 0; } }\n    } while (wait);\n    __transaction_atomic { entered = entered + 1; }\n    __transaction_atomic { wants[me] = 0; }\n}\n\n// txc: --threads 2\n// txc: --threads 2 --fair (fails)\n",
+            b"",
+            b"",
+            b"== endless --order '' --then 0,1,0,1,0,1\ntxc: with --order 0,1,0,1,0,1\nturn thread at     wants[0] wants[1]\n                          0        0\n   1      0 7:9          >1        .   wants[me] = 1\n   2      1 7:9           .       >1   wants[me] = 1\n   3      0 8:9           .        1   wait = wants[1 - me]\n   4      1 8:9           1        .   wait = wants[1 - me]\n   5      0 9:21         >0        .   wants[me] = 0\n   6      1 9:21          .       >0   wants[me] = 0\nthread 0: next at 7:9: wants[me] = 1\nthread 1: next at 7:9: wants[me] = 1\n",
+        ),
+        (
+            "txc outcomes examples/fair/starved.c --threads 2 --fair",
+            b"// Thread 0 enters a test-and-set lock until another thread has entered, so it may starve that thread.\nint taken, stop;\n\nvoid worker(int self) {\n    int mine, stopped = 0;\n    do {\n        do { __transaction_atomic { mine = !taken; if (mine) taken = 1; } } while (!mine);\n        __transaction_atomic { if (self) stop = 1; stopped = stop; }\n        __transaction_atomic { taken = 0; }\n    } while (!stopped);\n}\n\n// txc: --threads 2\n// txc: --threads 2 --fair (fails)\n",
+            b"",
+            b"",
+            b"== endless --order '' --then 0,1,0,0\ntxc: with --order 0,1,0,0\nturn thread at     taken stop\n                       0    0\n   1      0 7:14      >1    .   mine = !taken; if (mine) taken = 1\n   2      1 7:14       1    .   mine = !taken; if (mine) taken = 1\n   3      0 8:9        .    0   if (self) stop = 1; stopped = stop\n   4      0 9:9       >0    .   taken = 0\nthread 0: next at 7:14: mine = !taken; if (mine) taken = 1\nthread 1: next at 7:14: mine = !taken; if (mine) taken = 1\n",
+        ),
+        (
+            "txc outcomes examples/fair/test_and_set.c --threads 3 --fair",
+            b"// A test-and-set lock, which each thread enters twice. A thread may be overtaken again and again, but only by threads\n// that enter, and these end.\nint taken, entered;\n\nvoid worker(int self) {\n    int i, mine;\n    for (i = 0; i < 2; i++) {\n        do { __transaction_atomic { mine = !taken; if (mine) taken = 1; } } while (!mine);\n        __transaction_atomic { entered = entered + 1; }\n        __transaction_atomic { taken = 0; }\n    }\n}\n\n// txc: --threads 3 --fair\n",
+            b"",
+            b"",
+            b"== every fair schedule terminates\n",
+        ),
+        (
+            "txc outcomes examples/ticket.c --threads 2 --fair",
+            b"// A ticket lock made of transactions: each thread takes a number, waits in a loop until it is served, and enters twice.\n// `most` is the largest number of threads that were inside at one time.\nint next, serving, inside, most, entered;\n\nvoid worker(int self) {\n    int i, mine, mine_now;\n    for (i = 0; i < 2; i++) {\n        __transaction_atomic { mine = next; next = next + 1; }\n        do {\n            __transaction_atomic { mine_now = serving == mine; }\n        } while (!mine_now);\n        __transaction_atomic { inside = inside + 1; if (inside > most) most = inside; }\n        __transaction_atomic { inside = inside - 1; entered = entered + 1; serving = serving + 1; }\n    }\n}\n",
+            b"",
+            b"",
+            b"== every fair schedule terminates\n",
+        ),
         (
             "txc outcomes examples/mistakes/lost_update.c --threads 2 --final no_deposit_lost",
             b"// Clerks pay money into one account. At the end, the balance should have grown by the sum of all deposits.\n// Mistake: a deposit reads the balance in one transaction and writes it in the next.\nint balance = 100, deposited;\n\nint no_deposit_lost(void) { return balance == 100 + deposited; }\n\nvoid deposit(int amount) {\n    int seen;\n    __transaction_atomic { seen = balance; }\n    __transaction_atomic {\n        balance = seen + amount;\n        deposited = deposited + amount;\n    }\n}\n\nvoid worker(int self) {\n    deposit(10 * (self + 1));\n}\n\n// txc: --threads 2 --final no_deposit_lost (fails)\n",
@@ -596,6 +659,12 @@ fn third_transcripts() -> &'static [Transcript] {
             b"",
             b"== outcome --order 0,0,1\n== thread 0: ended\n== thread 1: ended\n== memory\nseats = 0\nsold = 1\n== outcome --order 1,0,0,1\n== thread 0: ended\n== thread 1: ended\n== memory\nseats = -1\nsold = 2\n== outcomes: 2, stuck: 0, states: 7, threads: 2\n",
         ),
+    ];
+    &ROWS
+}
+
+fn fourth_transcripts() -> &'static [Transcript] {
+    static ROWS: [Transcript; 18] = [
         (
             "txc outcomes examples/seats_checked.c --threads 2",
             b"// As seats.c, with a check: if the seat is sold twice, a division by 0 ends the thread.\nint seats = 1, sold;\n\nvoid worker(int self) {\n    int free;\n    __transaction_atomic { free = seats > 0; }\n    if (free) {\n        __transaction_atomic {\n            seats = seats - 1;\n            sold = sold + 1;\n            free = 1 / (sold <= 1);\n        }\n    }\n}\n",
@@ -659,12 +728,6 @@ fn third_transcripts() -> &'static [Transcript] {
             b"",
             b"== events\n12 0 commit\n19 0 cancel\n28 0 commit\n== thread 0: ended\n== memory\ntrain = 0\nbus = 8\nasked = 2\nby_train = 1\nby_bus = 1\n",
         ),
-    ];
-    &ROWS
-}
-
-fn fourth_transcripts() -> &'static [Transcript] {
-    static ROWS: [Transcript; 18] = [
         (
             "txc replay examples/carts.c --schedule examples/schedules/carts.txt",
             b"// A cart is built as a whole or not at all: if the inner transaction finds too few wheels, one cancel undoes both.\nint frames = 3, wheels = 9, built;\n\nvoid worker(int self) {\n    int i;\n    for (i = 0; i < 3; i++) {\n        __transaction_atomic [[outer]] {\n            frames = frames - 1;\n            __transaction_atomic {\n                wheels = wheels - 4;\n                if (wheels < 0) __transaction_cancel [[outer]];\n            }\n            built = built + 1;\n        }\n    }\n}\n",
@@ -728,6 +791,12 @@ fn fourth_transcripts() -> &'static [Transcript] {
             b"",
             b"== events\n14 0 commit\n17 1 abort\n26 1 commit\n== thread 0: ended\nticket 1, 9 left\n== thread 1: ended\nticket 2, 8 left\n== memory\nsold = 2\nleft = 8\n",
         ),
+    ];
+    &ROWS
+}
+
+fn fifth_transcripts() -> &'static [Transcript] {
+    static ROWS: [Transcript; 18] = [
         (
             "txc replay examples/receipt.c --seed 3 --steps 23 --timeline",
             b"// Printing can't be undone, so it needs a relaxed transaction: from the first `printf` on no other thread can change\n// shared data, and the numbers on the receipt belong together.\nint sold, left = 10;\n\nvoid worker(int self) {\n    __transaction_relaxed {\n        sold = sold + 1;\n        left = left - 1;\n        printf(\"ticket %d, %d left\\n\", sold, left);\n    }\n}\n",
@@ -791,12 +860,6 @@ fn fourth_transcripts() -> &'static [Transcript] {
             b"",
             b"== thread 0: trap 1\n== memory\ntotal = 2147483647\nentries = 5\ntxc: thread 0: trap 1 at 7:17: 2147483647 + 1 is out of the range of int\n        total = total + 1;\n                ^^^^^^^^^\n",
         ),
-    ];
-    &ROWS
-}
-
-fn fifth_transcripts() -> &'static [Transcript] {
-    static ROWS: [Transcript; 18] = [
         (
             "txc source examples/booking.c --threads 2 --order 1,0,0,1",
             b"// A cancel undoes the innermost transaction alone: a thread that finds no seat in the train takes one in the bus, and\n// what the outer transaction wrote before is kept. Each thread books twice.\nint train = 1, bus = 9, asked, by_train, by_bus;\n\nvoid worker(int self) {\n    int i;\n    for (i = 0; i < 2; i++) {\n        __transaction_atomic {\n            int seated = 0;\n            asked = asked + 1;\n            __transaction_atomic {\n                train = train - 1;\n                by_train = by_train + 1;\n                if (train < 0) __transaction_cancel;\n                seated = 1;\n            }\n            if (!seated) {\n                bus = bus - 1;\n                by_bus = by_bus + 1;\n            }\n        }\n    }\n}\n",
@@ -860,6 +923,12 @@ fn fifth_transcripts() -> &'static [Transcript] {
             b"",
             b"== thread 0: ended\nticket 2, 8 left\n== thread 1: ended\nticket 3, 7 left\n== thread 2: ended\nticket 1, 9 left\n== memory\nsold = 3\nleft = 7\n",
         ),
+    ];
+    &ROWS
+}
+
+fn sixth_transcripts() -> &'static [Transcript] {
+    static ROWS: [Transcript; 9] = [
         (
             "txc source examples/transfer.c --threads 2 --order 0,1,1,0",
             b"// Both accounts change in one step, or neither does.\nint checking = 120, savings = 40;\n\nvoid worker(int self) {\n    __transaction_atomic {\n        checking = checking - 50;\n        savings = savings + 50;\n    }\n    __transaction_atomic {\n        savings = savings + 1;\n    }\n}\n",
@@ -1008,6 +1077,14 @@ fn fourth_transcripts_show_what_they_should(rt: HostRuntime) {
 fn fifth_transcripts_show_what_they_should(rt: HostRuntime) {
     assert_eq!(rt;
         wrong_transcript(&rt, rt.alloc(), fifth_transcripts()),
+        None
+    );
+}
+
+#[test]
+fn sixth_transcripts_show_what_they_should(rt: HostRuntime) {
+    assert_eq!(rt;
+        wrong_transcript(&rt, rt.alloc(), sixth_transcripts()),
         None
     );
 }

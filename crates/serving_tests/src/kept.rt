@@ -117,13 +117,14 @@ fn each_file_is_read_before_the_source_is_checked(rt: HostRuntime) {
 
 #[test]
 fn a_schedule_an_order_a_report_and_a_list_are_read_whole(rt: HostRuntime) {
-    static ROWS: [(&str, &[usize]); 3] = [
+    static ROWS: [(&str, &[usize]); 4] = [
         ("txc replay a.c --schedule long", &[3, LONG]),
         (
             "txc certify a.c --order-file long --report long",
             &[3, LONG, LONG],
         ),
         ("txc outcomes a.c --expect long", &[3, LONG]),
+        ("txc outcomes a.c --admits long", &[3, LONG]),
     ];
     let told = b"txc: fault 12 at 1:4: unexpected end\n".as_slice();
     for (line, counts) in &ROWS {

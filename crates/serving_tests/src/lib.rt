@@ -2,6 +2,8 @@
 #![tactic(auto)]
 
 #[cfg(test)]
+mod admitted;
+#[cfg(test)]
 mod all_orders;
 #[cfg(test)]
 mod beside;
@@ -11,6 +13,8 @@ mod certified;
 mod compared;
 #[cfg(test)]
 mod explored;
+#[cfg(test)]
+mod fair;
 #[cfg(test)]
 mod fixed;
 #[cfg(test)]

@@ -104,7 +104,9 @@ impl<'n> NamedFile<'n> {
     {
         match against {
             Against::Refined { file } => NamedFile::source(file.as_str(), verbose, format),
-            Against::Expected { file } => NamedFile::whole(file.as_str(), verbose, format),
+            Against::Expected { file } | Against::Admitted { file } => {
+                NamedFile::whole(file.as_str(), verbose, format)
+            }
         }
     }
 }
@@ -228,6 +230,12 @@ pub(crate) fn keep_files<F: Files, E: Write>(
             ..
         }
         | Request::Cover {
+            file,
+            verbose,
+            format,
+            ..
+        }
+        | Request::Fair {
             file,
             verbose,
             format,

@@ -48,7 +48,8 @@ fn is_cut_within<A: Allocator + Copy>(alloc: A, bytes: u64, states: usize) -> Op
     }
 }
 
-/// A walk makes the turns of its first state before it is asked. Both lead to one state, since the threads begin alike.
+/// A walk makes the turns of its first state before it calls `Progress`. Both lead to one state, since the threads
+/// begin alike.
 #[test]
 fn a_walk_ends_where_it_takes_too_much_memory(rt: HostRuntime) {
     assert_that(&rt, is_cut_within(rt.alloc(), 0, 2) == Some(true));

@@ -10,6 +10,10 @@ mod counted;
 #[cfg(test)]
 mod cut;
 #[cfg(test)]
+mod fair;
+#[cfg(test)]
+mod fair_programs;
+#[cfg(test)]
 mod led;
 #[cfg(test)]
 mod programs;

@@ -3,8 +3,10 @@ use Rattle.std.specs.Prelude.{◌≡◌, ◌≤◌, ◌++◌, ℕ, List, Option,
 use Rattle.command.specs.declared.request.Claim.{Claim}
 use Rattle.command.specs.declared.request.Comparison.{Comparison}
 use Rattle.command.specs.declared.request.Coverage.{Coverage}
+use Rattle.command.specs.declared.request.FairSearch.{FairSearch}
 use Rattle.command.specs.declared.request.Questions.{Questions}
 use Rattle.command.specs.declared.request.Task.{Task}
+use Rattle.syntax.specs.Tree.{Program}
 use Rattle.report.specs.Coverings.{CoveredProperty}
 use Rattle.report.specs.OutcomeList.{ReportedOrder}
 use Rattle.report.specs.Printed.{Printed}
@@ -16,6 +18,7 @@ use Rattle.serving.specs.Certified.{CertifiesReport, SaysSo, ShowsDifference, Wr
 use Rattle.serving.specs.Compared.{ComparesOutcomes, HaveNoCode, WritesComparison}
 use Rattle.serving.specs.Coverings.{AnswersCoverage, IsCoverageOf, IsTextOfCoverings, TellsCoverings}
 use Rattle.serving.specs.Expected.{SaysExpected, ShowsUnexpected}
+use Rattle.serving.specs.Fair.{AnswersFair, IsFairText, IsFairTextOf, TellsFair}
 use Rattle.serving.specs.InTurn.{AreTextsInTurn, SaysInTurn}
 use Rattle.serving.specs.Limits.{HasNoCode}
 use Rattle.serving.specs.Properties.{AnswersQuestions, IsTextOfProperties, IsToldOf, TellsProperties}
@@ -82,6 +85,12 @@ abbrev pub ServesCoverage : Coverage → (bytes : Option (List ℕ)) → (status
 ServesCoverage coverage bytes status old new =
     ServesFile 5 (λ text s o n. AnswersCoverage coverage text s o n) (λ text. HasNoCode text)
     (λ text o n. WritesPart (IsCoverageOf coverage text) o n) bytes status old new
+
+-- their fair schedules
+abbrev pub ServesFair : FairSearch → (bytes : Option (List ℕ)) → (status : ℕ) → (old new : Option (List ℕ)) → Type 0
+ServesFair search bytes status old new =
+    ServesFile 5 (λ text s o n. AnswersFair search text s o n) (λ text. HasNoCode text)
+    (λ text o n. WritesPart (IsFairTextOf search text) o n) bytes status old new
 
 -- whether something holds of these bytes or not
 abbrev pub ServesEither : (IsSo IsNot : List ℕ → List ℕ → Type 0) → (Refuses : Type 0) → (bytes : Option (List ℕ)) →
@@ -157,3 +166,8 @@ abbrev pub PrintsCoverings : (AreFound : List CoveredProperty → Type 0) → (s
     Type 0
 PrintsCoverings AreFound status old new =
     Serves 5 (TellsCoverings AreFound) ⊥ (WritesPart (IsTextOfCoverings AreFound)) status old new
+
+-- likewise, the finding about fair schedules
+abbrev pub PrintsFair : Program → (threads : ℕ) → (status : ℕ) → (old new : Option (List ℕ)) → Type 0
+PrintsFair p threads status old new =
+    Serves 5 (TellsFair p threads) ⊥ (WritesPart (IsFairText p threads)) status old new

@@ -8,4 +8,5 @@ returns c =
     let four = c.with-command-4.ensures _ _ three c.text-memory.ensures.rule c.text-memory.ensures.global in
     let five = c.with-command-5.ensures _ _ four c.text-time.ensures.rule c.text-time.ensures.global in
     let six = c.with-command-6.ensures _ _ five c.text-refines.ensures.rule c.text-refines.ensures.global in
-    c.with.ensures _ _ six c.text-expect.ensures.rule c.text-expect.ensures.global
+    let seven = c.with-command-7.ensures _ _ six c.text-expect.ensures.rule c.text-expect.ensures.global in
+    c.with.ensures _ _ seven c.text-admits.ensures.rule c.text-admits.ensures.global

@@ -1,4 +1,5 @@
 use Rattle.std.proofs.Common.{subst}
+use Rattle.serving.specs.Explored.{IsPageOf, PrintsPage}
 use Rattle.serving.specs.Limits.{HasNoCode}
 use Rattle.serving.specs.Traces.{IsOrderTrace, PrintsTrace, TracesOrder}
 use Rattle.serving.specs.inner.Serves.{ServesText}
@@ -17,7 +18,12 @@ pub returns-in-Outcomes : goal.returns-in-Outcomes
 returns-in-Outcomes g c = rw c.in-Outcomes.is c.all_outcomes.ensures
 
 pub returns-in-Explore : goal.returns-in-Explore
-returns-in-Explore g c = rw c.in-Explore.is c.explore_orders.ensures
+returns-in-Explore g c =
+    let threads = c.in-Explore.threads in
+    let text = c.args.text.now in
+    rw c.in-Explore.is
+    (subst (λ o. ServesText (PrintsPage threads o text) (HasNoCode text) (IsPageOf threads o text)
+    c.explore_orders.result (g.W.Write.contents c.args.out.now) (g.W.Write.contents c.explore_orders.new.out)) c.as_slice-in-Explore.ensures.value c.explore_orders.ensures)
 
 pub returns-in-Trace : goal.returns-in-Trace
 returns-in-Trace g c =

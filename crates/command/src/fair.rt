@@ -1,0 +1,45 @@
+//! Whether every fair schedule terminates.
+
+ghost use Rattle.std.specs.Prelude.{◌≡◌, IfErr, IfOk, codes, true, false};
+ghost use Rattle.clap.specs.Words.{found_of, rows_of};
+ghost use Rattle.command.specs.Asked.{IsFairSearch, IsFlagged, IsUnflagged};
+ghost use Rattle.command.specs.declared.request.FairSearch.{FairSearch};
+ghost use Rattle.command.specs.inner.Refusals.{IsOwn};
+
+use crate::comparison::compares;
+use crate::given::{flag_given, number_given, wrong};
+use crate::questions::are_asked;
+use crate::request::{FairSearch, UsageFault};
+use crate::task::{MOST_THREADS, number};
+use clap::ArgMatches;
+use std::alloc::Global;
+
+/// Whether a command searches for a fair schedule that never terminates.
+pub(crate) fn is_fair(name: &str, given: &ArgMatches<'_>) -> bool
+    ensures yes { result ≡ true →
+        (name.now ≡ codes "outcomes") × IsFlagged (rows_of (found_of given.now)) (codes "fair") }
+    ensures no { result ≡ false → name.now ≡ codes "outcomes" →
+        IsUnflagged (rows_of (found_of given.now)) (codes "fair") }
+{
+    name == "outcomes" && flag_given(given, "fair")
+}
+
+/// The search for a fair schedule that never terminates.
+pub(crate) fn fair_search(alloc: Global, given: &ArgMatches<'_>) -> Result<FairSearch, UsageFault>
+    requires { IsFlagged (rows_of (found_of given.now)) (codes "fair") }
+    ensures ok { IfOk result (IsFairSearch (rows_of (found_of given.now))) }
+    ensures err { IfErr result (IsOwn ((s : FairSearch) → IsFairSearch (rows_of (found_of given.now)) s → ⊥)) }
+{
+    let why = "--fair takes no --always, --final, --refines or --expect";
+    if compares("outcomes", given) || are_asked(given) {
+        return Err(wrong(alloc, why));
+    }
+    Ok(FairSearch {
+        threads: number(alloc, given, "threads", 2, 1, MOST_THREADS)?,
+        steps: number(alloc, given, "steps", 1000000, 0, u32::MAX)?,
+        limit: number(alloc, given, "limit", 1000000, 0, u32::MAX)?,
+        memory: number(alloc, given, "memory", 1024, 0, u32::MAX)?,
+        time: number_given(alloc, given, "time", 0, u32::MAX)?,
+        traces: flag_given(given, "trace"),
+    })
+}

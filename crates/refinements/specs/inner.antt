@@ -1,0 +1,2 @@
+-- outcomes compared with a report
+pub mod Closest
