@@ -30,7 +30,7 @@ pub(crate) fn fair_search(alloc: Global, given: &ArgMatches<'_>) -> Result<FairS
     ensures ok { IfOk result (IsFairSearch (rows_of (found_of given.now))) }
     ensures err { IfErr result (IsOwn ((s : FairSearch) → IsFairSearch (rows_of (found_of given.now)) s → ⊥)) }
 {
-    let why = "--fair takes no --always, --final, --refines or --expect";
+    let why = "--fair takes no --always, --final, --refines, --expect or --admits";
     if compares("outcomes", given) || are_asked(given) {
         return Err(wrong(alloc, why));
     }

@@ -19,19 +19,19 @@ fn rows() -> &'static [Row] {
         ),
         (
             "txc|outcomes|a.c|--fair|--always=p",
-            br#"Err(Wrong { text: "txc: usage: --fair takes no --always, --final, --refines or --expect\n" })"#,
+            br#"Err(Wrong { text: "txc: usage: --fair takes no --always, --final, --refines, --expect or --admits\n" })"#,
         ),
         (
             "txc|outcomes|a.c|--fair|--final=p",
-            br#"Err(Wrong { text: "txc: usage: --fair takes no --always, --final, --refines or --expect\n" })"#,
+            br#"Err(Wrong { text: "txc: usage: --fair takes no --always, --final, --refines, --expect or --admits\n" })"#,
         ),
         (
             "txc|outcomes|a.c|--fair|--refines=b.c",
-            br#"Err(Wrong { text: "txc: usage: --fair takes no --always, --final, --refines or --expect\n" })"#,
+            br#"Err(Wrong { text: "txc: usage: --fair takes no --always, --final, --refines, --expect or --admits\n" })"#,
         ),
         (
             "txc|outcomes|a.c|--fair|--expect=l",
-            br#"Err(Wrong { text: "txc: usage: --fair takes no --always, --final, --refines or --expect\n" })"#,
+            br#"Err(Wrong { text: "txc: usage: --fair takes no --always, --final, --refines, --expect or --admits\n" })"#,
         ),
         (
             "txc|outcomes|a.c|--fair|--threads=2..4",
