@@ -1,14 +1,20 @@
--- One step of the loops that draw, and a picture's arrows with one more glyph.
+-- One step of the loops that draw, a picture's arrows with one more glyph, and its steps with one more.
 use Rattle.std.proofs.Common.{◌≡◌, ◌∙◌, ℕ, suc, ◌+◌, ◌<◌, List, [], ◌∷◌, ◌++◌, map, length, drop, get_or, ap, sym, refl, append_assoc, append-nil, add-one, drop-cons}
-use Rattle.std.specs.Prelude.{codes, flat_map, fold, option_to_list}
-use Rattle.std.proofs.lemmas.List.{map-append}
+use Rattle.std.specs.Prelude.{Some, codes, flat_map, fold, option_to_list}
+use Rattle.std.proofs.lemmas.List.{flat_map_more, map-append}
+use Rattle.bytecode.specs.Code.{Code}
+use Rattle.machine.specs.declared.event.StepShown.{StepShown}
+use Rattle.world.specs.Simulations.{Simulation, accesses_of, further, shown_at}
+use Rattle.replay.specs.Replays.{timeline_of}
+use Rattle.replay.proofs.Showing.{next_shown}
 use Rattle.picture.specs.declared.arrow.Arrow.{Arrow}
 use Rattle.picture.specs.declared.arrow.ArrowEnd.{ArrowEnd}
 use Rattle.picture.specs.declared.figure.Figure.{Figure}
 use Rattle.picture.specs.declared.glyph.Glyph.{Glyph as Own}
 use Rattle.picture.specs.Arrows.{arrow_text, arrow_to, arrows_among, arrows_behind}
 use Rattle.picture.specs.Figures.{figures_text}
-use Rattle.picture.specs.Glyphs.{Glyph, glyph_text}
+use Rattle.picture.specs.Glyphs.{DrawnStep, Glyph, glyph_text}
+use Rattle.picture.specs.Replayed.{if_drawn}
 use Rattle.picture.specs.Pictures.{IsPicture, head_text}
 use Rattle.picture.specs.Boxes.{box_text}
 use Rattle.picture.specs.declared.boxes.TransactionBox.{TransactionBox}
@@ -54,6 +60,13 @@ pub more_arrows : {A : Type 0} (old new : List (Own A)) (g : Own A) (before now 
 more_arrows old new g before now was added pushed =
     let mapped : map glyph_of new ≡ map glyph_of old ++ glyph_of g ∷ [] = ap (map glyph_of) pushed ∙ map-append glyph_of old (g ∷ []) in
     added ∙ ap (λ t. t ++ option_to_list (arrow_to (map glyph_of old) (glyph_of g))) was ∙ sym (one_more [] (map glyph_of old) (glyph_of g)) ∙ ap arrows_among (sym mapped)
+
+-- the steps that are drawn, with one more of the timeline
+pub one_more_step : (from : ℕ) (code : Code) (s z : Simulation) (t n : ℕ) (x : StepShown) (drawn : List DrawnStep) → z ≡ further s (t ∷ []) → shown_at s t ≡ Some x → n ≡ accesses_of z → drawn ≡ if_drawn from code (n, t, x) → flat_map (if_drawn from code) (timeline_of z) ≡ flat_map (if_drawn from code) (timeline_of s) ++ drawn
+one_more_step from code s z t n x drawn is at count made =
+    ap (flat_map (if_drawn from code)) (sym (next_shown s z t n x is at count))
+    ∙ sym (flat_map_more (if_drawn from code) [] (timeline_of s) (n, t, x))
+    ∙ ap (λ l. flat_map (if_drawn from code) (timeline_of s) ++ l) (sym made)
 
 steps_of : {A : Type 0} (glyphs : List (Own A)) → map (λ (g : Glyph). g.step) (map glyph_of glyphs) ≡ map (λ g. (glyph_of g).step) glyphs
 steps_of [] = refl

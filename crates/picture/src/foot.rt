@@ -8,7 +8,7 @@ use crate::words::words;
 use std::alloc::{AllocError, Allocator};
 
 /// How many transactions an order has at most that is written out.
-const MOST_LISTED: usize = 1000;
+pub(crate) const MOST_LISTED: usize = 1000;
 
 /// Says how a transaction took effect: by the number of its turn where it took the lock, its thread and its end.
 fn put_effect<A: Allocator>(to: &mut Vec<u8, A>, effect: &Effect) -> Result<(), AllocError> {
@@ -86,13 +86,13 @@ fn put_list<A: Allocator + Copy>(
 ) -> Result<u64, AllocError> {
     let alloc = sheet.alloc;
     let mut y = upper;
-    let listed = sheet.effects.len();
+    let listed = sheet.effect_count;
     if listed == 0 {
         return Ok(y);
     }
-    if listed > MOST_LISTED {
+    if listed > MOST_LISTED as u64 {
         let what = [
-            Piece::Number(listed as u64),
+            Piece::Number(listed),
             Piece::Plain(b" transactions took effect so far: too many to list them for --order"),
         ];
         let said = words(alloc, &what)?;

@@ -22,17 +22,6 @@ fn first_load(loads: &[Load], cell: u32) -> Option<Load> {
     None
 }
 
-/// The last of these stores to a cell.
-fn last_store(stores: &[Store], cell: u32) -> Option<Store> {
-    let mut last = None;
-    'stores: for store in stores {
-        if store.cell == cell {
-            last = Some(*store);
-        }
-    }
-    last
-}
-
 impl<'p, A: Allocator + Copy> Sheet<'p, A> {
     /// What a thread's next load of the lock is for, and the moment of its attempt, where it is in one.
     fn phase(&self, thread: u32) -> Option<(NextLoad, u64)> {
@@ -307,7 +296,7 @@ impl<'p, A: Allocator + Copy> Sheet<'p, A> {
             put_value(&mut said, self.cells, cell, read.word)?;
             self.draw_bracket(step.thread, read)?;
             if self.is_drawing {
-                if let Some(store) = last_store(self.stores.as_slice(), cell) {
+                if let Some(store) = self.last_store(cell) {
                     self.tell_drop(step, cell, word, read, store)?;
                 }
             }
@@ -378,11 +367,11 @@ impl<'p, A: Allocator + Copy> Sheet<'p, A> {
             step.thread,
             Look::new(b"store", said.as_slice(), b"b", Some(step.accesses)),
         )?;
-        self.stores.push(Store {
-            cell,
+        let store = Store {
             thread: step.thread,
             access: step.accesses,
-        })?;
+        };
+        self.add_store(cell, store);
         Ok(())
     }
 
@@ -403,7 +392,7 @@ impl<'p, A: Allocator + Copy> Sheet<'p, A> {
             Look::new(b"give", said.as_slice(), b"", Some(step.accesses)),
         )?;
         self.release_lock(value)?;
-        self.effects.push(Effect {
+        self.add_effect(Effect {
             snapshot: value.saturating_sub(2),
             took_lock: true,
             thread: step.thread,

@@ -1,22 +1,23 @@
 //! The steps of a replay, as they are drawn.
 
-ghost use Rattle.std.specs.Prelude.{◌≡◌, ◌++◌, IfOk, IsTrue, IfSome, OnSome, flat_map, slice_get};
+ghost use Rattle.std.specs.Prelude.{◌≡◌, ◌<◌, ◌++◌, ◌∷◌, [], IfOk, IsTrue, IfSome, OnSome, flat_map, map};
+ghost use Rattle.std.specs.Prelude.{slice_get};
+ghost use Rattle.world.specs.Simulations.{further};
 ghost use Rattle.replay.specs.Replays.{simulation_after, timeline_of};
 ghost use Rattle.report.specs.Timeline.{step_words};
+ghost use Rattle.picture.specs.Arrows.{arrows_among};
 ghost use Rattle.picture.specs.Glyphs.{is_among};
 ghost use Rattle.picture.specs.Pictures.{IsPicture};
 ghost use Rattle.picture.specs.Replayed.{IsDrawn, action_at, action_of, if_drawn};
-ghost use Rattle.picture.specs.inner.Views.{drawn_of};
+ghost use Rattle.picture.specs.inner.Views.{HasDrawn, drawn_of, glyph_of};
 
 use crate::cells::cells_of;
 use crate::source::transactions_of;
 use crate::step::{LocalAction, Step};
-use crate::svg::{is_among, picture};
+use crate::svg::{Drawing, draw, is_among, picture};
 use bytecode::{Code, InstrView};
 use lex::lex;
-use lex::token::Token;
 use machine::StepShown;
-use replay::timeline;
 use report::step_text;
 use std::alloc::{AllocError, Allocator};
 use syntax::thread_end::Status;
@@ -110,68 +111,104 @@ fn drawn_step<A: Allocator + Copy>(
     })
 }
 
-/// Makes the next step of a thread, and gives what it printed.
-fn printed_by<A: Allocator + Copy>(
+/// The output of a thread from this byte on.
+fn printed_from<A: Allocator + Copy>(
     alloc: A,
+    world: &World<A>,
+    thread: u32,
+    start: usize,
+) -> Result<Vec<u8, A>, AllocError>
+    requires { thread < world.now.threads }
+{
+    let output = world.output(thread).as_bytes();
+    Vec::from_slice(alloc, &output[start.min(output.len())..])
+}
+
+/// Makes the next step of a thread of a world, and returns it as it is drawn.
+fn next_step<A: Allocator + Copy>(
+    alloc: A,
+    code: &Code<A>,
     world: &mut World<A>,
     thread: u32,
-) -> Option<Vec<u8, A>> {
+    from: u32,
+) -> Option<Step<A>>
+    ensures made { OnSome result (world.new ≡ further world.old (thread ∷ [])) }
+    ensures drawn { IfSome result (λ s. flat_map (if_drawn from code.now) (timeline_of world.new)
+        ≡ flat_map (if_drawn from code.now) (timeline_of world.old) ++ drawn_of from s) }
+{
     if thread >= world.threads() {
         return None;
     }
     let before = world.output(thread).len();
-    let Ok(_) = world.step(thread) else {
+    let Ok(shown) = world.step_shown(thread) else {
         return None;
     };
-    let output = world.output(thread).as_bytes();
-    let printed = &output[before.min(output.len())..];
-    match Vec::from_slice(alloc, printed) {
-        Ok(printed) => Some(printed),
+    let Ok(printed) = printed_from(alloc, world, thread, before) else {
+        return None;
+    };
+    match drawn_step(alloc, code, world.accesses(), thread, &shown, printed, from) {
+        Ok(step) => Some(step),
         Err(_) => None,
     }
 }
 
-/// Adds a step as it is drawn, which the world makes too.
-fn add_step<A: Allocator + Copy>(
-    alloc: A,
-    steps: &mut Vec<Step<A>, A>,
+/// Makes the next step of a thread of a world, and draws it if a picture shows it.
+fn draw_next<A: Allocator + Copy>(
+    drawing: &mut Drawing<'_, A>,
     code: &Code<A>,
     world: &mut World<A>,
-    accesses: u64,
     thread: u32,
-    shown: &StepShown,
     from: u32,
 ) -> Option<()>
-    ensures { OnSome result (flat_map (drawn_of from) steps.new.items
-        ≡ flat_map (drawn_of from) steps.old.items ++ if_drawn from code.now (accesses, thread, shown.now)) }
+    requires { HasDrawn drawing.old (flat_map (if_drawn from code.now) (timeline_of world.old)) }
+    ensures made { OnSome result (world.new ≡ further world.old (thread ∷ [])) }
+    ensures drawn { OnSome result
+        (HasDrawn drawing.new (flat_map (if_drawn from code.now) (timeline_of world.new))) }
 {
-    let printed = printed_by(alloc, world, thread)?;
-    let Ok(step) = drawn_step(alloc, code, accesses, thread, shown, printed, from) else {
-        return None;
-    };
-    match steps.push(step) {
+    let step = next_step(drawing.sheet.alloc, code, world, thread, from)?;
+    match draw(drawing, &step, from) {
         Ok(()) => Some(()),
         Err(_) => None,
     }
 }
 
-/// Steps as they are drawn. The world is one in which none of them is made.
-fn drawn_steps<A: Allocator + Copy>(
-    alloc: A,
+/// Makes steps of a world that has made none. Draws those that a picture shows on an empty sheet, and keeps no others.
+fn draw_all<A: Allocator + Copy>(
+    drawing: &mut Drawing<'_, A>,
     code: &Code<A>,
     world: &mut World<A>,
-    shown: &[(u64, u32, StepShown)],
+    made: &[u32],
     from: u32,
-) -> Option<Vec<Step<A>, A>>
-    ensures { IfSome result (λ v. flat_map (drawn_of from) v.items ≡ flat_map (if_drawn from code.now) shown.now) }
+) -> Option<()>
+    requires first { world.old ≡ simulation_after code.now world.old.threads [] }
+    requires empty { HasDrawn drawing.old [] }
+    ensures { OnSome result (HasDrawn drawing.new (flat_map (if_drawn from code.now)
+        (timeline_of (simulation_after code.now world.old.threads made.now)))) }
 {
-    let mut steps = Vec::new(alloc);
-    'shown: for (accesses, thread, step) in shown {
-        add_step(
-            alloc, &mut steps, code, world, *accesses, *thread, step, from,
-        )?;
+    'steps: for at in 0..made.len() {
+        draw_next(drawing, code, world, made[at], from)?;
     }
-    Some(steps)
+    Some(())
+}
+
+/// Makes these steps of so many threads from their beginnings on, draws those that a picture shows on an empty sheet,
+/// and returns the world after them.
+fn draw_made<A: Allocator + Copy>(
+    drawing: &mut Drawing<'_, A>,
+    code: &Code<A>,
+    threads: u32,
+    made: &[u32],
+    from: u32,
+) -> Option<World<A>>
+    requires { HasDrawn drawing.old [] }
+    ensures { OnSome result (HasDrawn drawing.new (flat_map (if_drawn from code.now)
+        (timeline_of (simulation_after code.now threads made.now)))) }
+{
+    let Ok(mut world) = World::new(drawing.sheet.alloc, code, threads) else {
+        return None;
+    };
+    draw_all(drawing, code, &mut world, made, from)?;
+    Some(world)
 }
 
 /// How each thread of a world is found.
@@ -183,32 +220,21 @@ fn ends_of<A: Allocator + Copy>(alloc: A, world: &World<A>) -> Result<Vec<Status
     Ok(ends)
 }
 
-/// Draws steps as they are drawn, with how the threads of their world are found.
-fn draw_steps<A: Allocator + Copy>(
-    alloc: A,
-    unit: &Unit<A>,
-    text: &str,
-    tokens: &[Token<'_>],
-    steps: &[Step<A>],
-    from: u32,
+/// The picture of a drawing, with the status of each thread of a world.
+fn finish<A: Allocator + Copy>(
+    drawing: &mut Drawing<'_, A>,
     world: &World<A>,
+    text: &str,
+    from: u32,
     file: &[u8],
 ) -> Result<Vec<u8, A>, AllocError>
-    ensures { IfOk result (λ v. IsPicture text.now (flat_map (drawn_of from) steps.now) v.items) }
+    requires { map (λ a. (a.store, a.load)) drawing.old.arrows.items
+        ≡ arrows_among (map glyph_of drawing.old.glyphs.items) }
+    ensures { IfOk result
+        (λ v. IsPicture text.now (map (λ g. (glyph_of g).step) drawing.old.glyphs.items) v.items) }
 {
-    let cells = cells_of(alloc, unit)?;
-    let transactions = transactions_of(alloc, text, tokens)?;
-    let ends = ends_of(alloc, world)?;
-    picture(
-        alloc,
-        cells.as_slice(),
-        text,
-        transactions.as_slice(),
-        steps,
-        from,
-        ends.as_slice(),
-        file,
-    )
+    let ends = ends_of(drawing.sheet.alloc, world)?;
+    picture(drawing, text, from, ends.as_slice(), world.accesses(), file)
 }
 
 /// The picture of these steps of 1 to 64 threads of a program's code. `file` is the program's name, `text` its source.
@@ -231,21 +257,22 @@ pub fn replay_picture<A: Allocator + Copy>(
     let Ok(tokens) = lex(alloc, text) else {
         return None;
     };
-    let shown = timeline(alloc, code, threads, made)?;
-    let Ok(mut world) = World::new(alloc, code, threads) else {
+    let Ok(cells) = cells_of(alloc, unit) else {
         return None;
     };
-    let steps = drawn_steps(alloc, code, &mut world, shown.as_slice(), from)?;
-    match draw_steps(
+    let Ok(transactions) = transactions_of(alloc, text, tokens.as_slice()) else {
+        return None;
+    };
+    let Ok(mut drawing) = Drawing::new(
         alloc,
-        unit,
-        text,
-        tokens.as_slice(),
-        steps.as_slice(),
-        from,
-        &world,
-        file.as_bytes(),
-    ) {
+        cells.as_slice(),
+        transactions.as_slice(),
+        threads.min(64),
+    ) else {
+        return None;
+    };
+    let world = draw_made(&mut drawing, code, threads, made, from)?;
+    match finish(&mut drawing, &world, text, from, file.as_bytes()) {
         Ok(svg) => Some(svg),
         Err(_) => None,
     }

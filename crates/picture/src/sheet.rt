@@ -3,6 +3,7 @@
 use crate::attempt::Lane;
 use crate::boxes::TransactionBox;
 use crate::figure::Figure;
+use crate::foot::MOST_LISTED;
 use crate::source::Transaction;
 use lex::token::Scalar;
 use std::alloc::{AllocError, Allocator, Global};
@@ -34,10 +35,9 @@ pub(crate) enum Fold {
     Print(u32),
 }
 
-/// The last store to a cell, or an earlier one.
+/// A store to a cell.
 #[derive(Clone, Copy)]
 pub(crate) struct Store {
-    pub cell: u32,
     pub thread: u32,
     /// How many accesses all threads had made with the store.
     pub access: u64,
@@ -82,8 +82,12 @@ pub(crate) struct Sheet<'p, A: Allocator = Global> {
     /// The row from which on the lock is as it is, and its even value.
     pub free: (u64, u64),
     pub held: Option<Holding>,
-    pub stores: Vec<Store, A>,
+    /// The last store to each cell.
+    pub stores: Vec<Option<Store>, A>,
+    /// Transactions that took effect: those that are drawn, and before them at most as many as an order lists.
     pub effects: Vec<Effect, A>,
+    /// How many transactions took effect.
+    pub effect_count: u64,
     pub dropped: u64,
     /// Boxes, in the order in which they close.
     pub boxes: Vec<TransactionBox<A>, A>,
@@ -106,6 +110,10 @@ impl<'p, A: Allocator + Copy> Sheet<'p, A> {
         'threads: for _ in 0..threads {
             lanes.push(Lane::new())?;
         }
+        let mut stores = Vec::new(alloc);
+        'cells: for _ in 0..cells.len() {
+            stores.push(None)?;
+        }
         Ok(Sheet {
             alloc,
             cells,
@@ -117,8 +125,9 @@ impl<'p, A: Allocator + Copy> Sheet<'p, A> {
             fold: Fold::Never,
             free: (0, 0),
             held: None,
-            stores: Vec::new(alloc),
+            stores,
             effects: Vec::new(alloc),
+            effect_count: 0,
             dropped: 0,
             boxes: Vec::new(alloc),
             lock: Vec::new(alloc),
@@ -145,6 +154,30 @@ impl<'p, A: Allocator + Copy> Sheet<'p, A> {
         }
         if is_open {
             self.rows = 1;
+        }
+    }
+
+    /// A transaction took effect.
+    pub(crate) fn add_effect(&mut self, effect: Effect) -> Result<(), AllocError> {
+        self.effect_count = self.effect_count.saturating_add(1);
+        if effect.is_drawn || self.effects.len() < MOST_LISTED {
+            self.effects.push(effect)?;
+        }
+        Ok(())
+    }
+
+    /// A thread stores to a cell.
+    pub(crate) fn add_store(&mut self, cell: u32, store: Store) {
+        if let Some(last) = self.stores.get_mut(cell as usize) {
+            *last = Some(store);
+        }
+    }
+
+    /// The last store to a cell.
+    pub(crate) fn last_store(&self, cell: u32) -> Option<Store> {
+        match self.stores.get(cell as usize) {
+            Some(last) => *last,
+            None => None,
         }
     }
 

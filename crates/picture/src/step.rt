@@ -75,14 +75,13 @@ impl<'p, A: Allocator + Copy> Sheet<'p, A> {
     /// A transaction of a thread takes effect: as of its moment, without the lock.
     fn take_effect(&mut self, thread: u32, access: u64) -> Result<(), AllocError> {
         let snapshot = self.snapshot(thread);
-        self.effects.push(Effect {
+        self.add_effect(Effect {
             snapshot,
             took_lock: false,
             thread,
             access,
             is_drawn: self.is_drawing,
-        })?;
-        Ok(())
+        })
     }
 
     /// The even lock of whose moment a thread's attempt is.

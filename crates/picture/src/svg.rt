@@ -1,10 +1,10 @@
 //! The whole picture.
 
-ghost use Rattle.std.specs.Prelude.{◌≡◌, ◌++◌, OnOk, IfOk, flat_map, map};
+ghost use Rattle.std.specs.Prelude.{◌≡◌, ◌++◌, OnOk, IfOk, [], flat_map, map};
 ghost use Rattle.picture.specs.Arrows.{arrow_text, arrows_among};
 ghost use Rattle.picture.specs.Glyphs.{first_drawn, glyph_text, is_among, is_drawn};
 ghost use Rattle.picture.specs.Pictures.{IsPicture, head_text, size_text, told_text, view_box};
-ghost use Rattle.picture.specs.inner.Views.{drawn_of, glyph_of, step_of};
+ghost use Rattle.picture.specs.inner.Views.{HasDrawn, drawn_of, glyph_of, step_of};
 
 use crate::arrow::{Arrow, add_arrow, put_arrow};
 use crate::boxes::{Fate, TransactionBox, put_boxes};
@@ -41,6 +41,34 @@ fn is_drawn<A: Allocator>(step: &Step<A>, from: u32) -> bool
     ensures { result ≡ is_drawn from step.now.accesses step.now.access step.now.event step.now.action }
 {
     is_among(from, step.accesses) && step.is_noted()
+}
+
+/// The drawing of the steps so far. It does not keep the steps: there may be a million.
+#[derive(Drop)]
+pub(crate) struct Drawing<'p, A: Allocator = Global> {
+    pub sheet: Sheet<'p, A>,
+    /// The glyphs of the steps that are drawn, in order.
+    pub glyphs: Vec<Glyph<A>, A>,
+    /// The arrows among these glyphs.
+    pub arrows: Vec<Arrow, A>,
+}
+
+impl<'p, A: Allocator + Copy> Drawing<'p, A> {
+    /// An empty drawing of so many threads. `cells` names the cells of memory, `transactions` has those of the source.
+    pub(crate) fn new(
+        alloc: A,
+        cells: &'p [Cell<A>],
+        transactions: &'p [Transaction<A>],
+        threads: u32,
+    ) -> Result<Drawing<'p, A>, AllocError>
+        ensures { IfOk result (λ d. HasDrawn d []) }
+    {
+        Ok(Drawing {
+            sheet: Sheet::new(alloc, cells, transactions, threads)?,
+            glyphs: Vec::new(alloc),
+            arrows: Vec::new(alloc),
+        })
+    }
 }
 
 /// Makes a step that comes before the first access that is drawn. Nothing is drawn of it.
@@ -100,24 +128,27 @@ fn add_glyph<A: Allocator + Copy>(
     Ok(())
 }
 
-/// The glyphs of the steps that are drawn, in order, and the arrows among them.
-fn glyphs<A: Allocator + Copy>(
-    sheet: &mut Sheet<'_, A>,
-    steps: &[Step<A>],
+/// Makes a step, and draws it, if it is drawn.
+pub(crate) fn draw<A: Allocator + Copy>(
+    drawing: &mut Drawing<'_, A>,
+    step: &Step<A>,
     from: u32,
-) -> Result<(Vec<Glyph<A>, A>, Vec<Arrow, A>), AllocError>
-    ensures glyphs { IfOk result
-        (λ r. map (λ g. (glyph_of g).step) r.0.items ≡ flat_map (drawn_of from) steps.now) }
-    ensures arrows { IfOk result
-        (λ r. map (λ a. (a.store, a.load)) r.1.items ≡ arrows_among (map glyph_of r.0.items)) }
+) -> Result<(), AllocError>
+    requires { map (λ a. (a.store, a.load)) drawing.old.arrows.items
+        ≡ arrows_among (map glyph_of drawing.old.glyphs.items) }
+    ensures glyphs { OnOk result (map (λ g. (glyph_of g).step) drawing.new.glyphs.items
+        ≡ map (λ g. (glyph_of g).step) drawing.old.glyphs.items ++ drawn_of from step.now) }
+    ensures arrows { OnOk result (map (λ a. (a.store, a.load)) drawing.new.arrows.items
+        ≡ arrows_among (map glyph_of drawing.new.glyphs.items)) }
 {
-    let mut glyphs = Vec::new(sheet.alloc);
-    let mut arrows = Vec::new(sheet.alloc);
-    'steps: for step in steps {
-        pass(sheet, step, from)?;
-        add_glyph(sheet, &mut glyphs, &mut arrows, step, from)?;
-    }
-    Ok((glyphs, arrows))
+    pass(&mut drawing.sheet, step, from)?;
+    add_glyph(
+        &mut drawing.sheet,
+        &mut drawing.glyphs,
+        &mut drawing.arrows,
+        step,
+        from,
+    )
 }
 
 /// Draws what is open at the end.
@@ -480,33 +511,29 @@ fn picture_text<A: Allocator>(
     Ok(svg)
 }
 
-/// How many accesses all threads had made behind these steps.
-fn accesses_of<A: Allocator>(steps: &[Step<A>]) -> u64 {
-    match steps.last() {
-        Some(step) => step.accesses,
-        None => 0,
-    }
-}
-
-/// The picture of a replay: its steps, and how each of its 1 to 64 threads is found behind them. `cells` names the
-/// cells of memory, `transactions` has those of the source, `file` is its name. At most 400 accesses are drawn, from
-/// this one on.
+/// The picture of a drawing. `ends` has the status of each of its 1 to 64 threads after the steps, in which so many
+/// accesses were made. At most 400 of these are drawn, from this one on. `file` is the name of the source.
 pub(crate) fn picture<A: Allocator + Copy>(
-    alloc: A,
-    cells: &[Cell<A>],
+    drawing: &mut Drawing<'_, A>,
     text: &str,
-    transactions: &[Transaction<A>],
-    steps: &[Step<A>],
     from: u32,
     ends: &[Status],
+    accesses: u64,
     file: &[u8],
 ) -> Result<Vec<u8, A>, AllocError>
-    ensures { IfOk result (λ v. IsPicture text.now (flat_map (drawn_of from) steps.now) v.items) }
+    requires { map (λ a. (a.store, a.load)) drawing.old.arrows.items
+        ≡ arrows_among (map glyph_of drawing.old.glyphs.items) }
+    ensures { IfOk result
+        (λ v. IsPicture text.now (map (λ g. (glyph_of g).step) drawing.old.glyphs.items) v.items) }
 {
     let threads = ends.len().min(64) as u32;
-    let mut sheet = Sheet::new(alloc, cells, transactions, threads)?;
-    let (glyphs, arrows) = glyphs(&mut sheet, steps, from)?;
-    close(&mut sheet, threads)?;
-    let page = page_of(&mut sheet, ends, from, accesses_of(steps), file)?;
-    picture_text(alloc, text, &page, arrows.as_slice(), glyphs.as_slice())
+    close(&mut drawing.sheet, threads)?;
+    let page = page_of(&mut drawing.sheet, ends, from, accesses, file)?;
+    picture_text(
+        drawing.sheet.alloc,
+        text,
+        &page,
+        drawing.arrows.as_slice(),
+        drawing.glyphs.as_slice(),
+    )
 }

@@ -1,5 +1,6 @@
 -- The Rust types as plain ones.
-use Rattle.std.specs.Prelude.{ℕ, List, [], ◌∷◌, map, if◌then◌else◌}
+use Rattle.std.specs.Prelude.{◌≡◌, ℕ, List, [], ◌∷◌, map, if◌then◌else◌}
+use Rattle.picture.specs.Arrows.{arrows_among}
 use Rattle.picture.specs.Boxes as boxes
 use Rattle.picture.specs.Figures as plain
 use Rattle.picture.specs.Figures.{xml}
@@ -10,6 +11,7 @@ use Rattle.picture.specs.declared.figure.Figure.{Figure}
 use Rattle.picture.specs.declared.figure.Figure.TheVariants.{Words, Rectangle, Line, Symbol}
 use Rattle.picture.specs.declared.glyph.Glyph.{Glyph}
 use Rattle.picture.specs.declared.step.Step.{Step}
+use Rattle.picture.specs.declared.svg.Drawing.{Drawing}
 
 module _ {A : Type 0} where
   abbrev pub figure_of : Figure A → plain.Figure
@@ -45,3 +47,9 @@ module _ {A : Type 0} where
 
   abbrev pub drawn_of : (from : ℕ) → Step A → List DrawnStep
   drawn_of from s = if is_drawn from s.accesses s.access s.event s.action then step_of s ∷ [] else []
+
+  -- the glyphs of a drawing are those of these steps, and its arrows are those among these glyphs
+  abbrev pub HasDrawn : Drawing A → List DrawnStep → Type 0
+  HasDrawn d steps =
+      (map (λ g. (glyph_of g).step) d.glyphs.items ≡ steps)
+      × (map (λ a. (a.store, a.load)) d.arrows.items ≡ arrows_among (map glyph_of d.glyphs.items))
