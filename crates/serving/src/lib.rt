@@ -44,6 +44,7 @@ mod run;
 mod run_line;
 mod served;
 mod source;
+mod stuck_states;
 mod tell;
 mod timed;
 mod trace;
