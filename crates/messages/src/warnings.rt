@@ -17,7 +17,12 @@ pub fn warning_words(name: &str) -> WarningWords {
         "endless-wait" => (
             "no other thread can end this wait",
             "",
-            "a transaction sees no write of another thread: wait outside it, as in while (!__transaction_atomic (ready)) ;",
+            "no thread writes what would end it",
+        ),
+        "transaction-wait" => (
+            "a transaction waits here for another thread",
+            "the wait is at ",
+            "only an abort can end it: wait outside the transaction, as in while (!__transaction_atomic (ready)) ;",
         ),
         "undone-write" => (
             "a cancel always undoes this write",

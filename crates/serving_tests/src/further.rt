@@ -51,7 +51,7 @@ fn rows() -> &'static [Row] {
             (
                 0,
                 b"accepted\n",
-                b"txc: warning endless-wait at 1:62: no other thread can end this wait\nint x; void worker(int self) { __transaction_atomic { while (x == 0) ; } }\n                                                             ^^^^^^\na transaction sees no write of another thread: wait outside it, as in while (!__transaction_atomic (ready)) ;\n",
+                b"txc: warning endless-wait at 1:62: no other thread can end this wait\nint x; void worker(int self) { __transaction_atomic { while (x == 0) ; } }\n                                                             ^^^^^^\nno thread writes what would end it\n",
             ),
         ),
         (

@@ -1,5 +1,6 @@
 //! What a body does, in the order of its text.
 
+use crate::facts::{Given, Test};
 use lex::token::Span;
 use syntax::tree::TransactionKind;
 
@@ -12,25 +13,14 @@ pub(crate) struct Variable<'a> {
     pub(crate) span: Span,
 }
 
-impl<'a> Variable<'a> {
-    /// Whether two name the same variable, or elements of one array.
-    pub(crate) fn is_same(self, other: Variable<'_>) -> bool {
-        match (self.local, other.local) {
-            (Some(one), Some(other)) => one == other,
-            (None, None) => self.name == other.name,
-            _ => false,
-        }
-    }
-}
-
 /// A part of a body, round other actions.
 #[derive(Clone, Copy)]
 pub(crate) enum Part {
     Block,
     /// A statement that may be left out: a branch of an `if`, or the body of a loop.
     Branch,
-    /// An `if` or a `? :`, with its condition and its branches; and what stands behind an `if` in its block, where one of
-    /// its branches does not come to its end.
+    /// An `if` or a `? :`, with its condition and its branches; and what follows an `if` in its block, if one of its
+    /// branches does not come to its end.
     Choice,
     Condition,
     Loop,
@@ -39,7 +29,7 @@ pub(crate) enum Part {
     Transaction(TransactionKind),
     /// A transaction that is an expression.
     ValueTransaction,
-    /// An assignment: what it reads, and the write behind it.
+    /// An assignment: what it reads, and the write after it.
     Assignment,
 }
 
@@ -51,8 +41,13 @@ pub(crate) enum Action<'a> {
     /// A local is declared.
     Declares,
     Reads(Variable<'a>),
-    Writes(Variable<'a>),
-    Calls,
+    Writes(Variable<'a>, Given<'a>),
+    /// A condition begins, and this is known of it.
+    Tests(Test<'a>),
+    /// A call of the function of this name, and where it stands.
+    Calls(&'a str, Span),
+    /// A value is returned.
+    Returns(Given<'a>),
     /// A `break`, a `continue` or a `return`.
     Jumps,
     /// A cancel of the innermost transaction, or of the outer one, and where it stands.

@@ -1,7 +1,7 @@
 //! What statements do.
 
 use crate::action::{Action, Part};
-use crate::expr::{add_condition, add_expr, add_exprs, add_first, add_simple};
+use crate::expr::{add_condition, add_exprs, add_first, add_return, add_simple};
 use crate::flow::completes;
 use crate::known::{Body, FileNames};
 use crate::warning::{Warning, WarningKind};
@@ -173,7 +173,7 @@ fn add_open<'a, A: Allocator + Copy>(
         }
         Stmt::Break(_) | Stmt::Continue(_) => body.add(Action::Jumps),
         Stmt::Return(Some(e), _) => {
-            add_expr(file, body, e)?;
+            add_return(file, body, e)?;
             body.add(Action::Jumps)
         }
         Stmt::Return(None, _) => body.add(Action::Jumps),

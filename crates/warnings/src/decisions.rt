@@ -263,7 +263,7 @@ pub(crate) fn add_decisions<A: Allocator + Copy>(
             Action::Begins(part) => add_begin(&mut known, *part, number)?,
             Action::Ends(part) => add_end(&mut known, *part),
             Action::Reads(variable) => add_read(&mut known, *variable)?,
-            Action::Writes(variable) => add_write(&mut known, found, *variable)?,
+            Action::Writes(variable, _) => add_write(&mut known, found, *variable)?,
             _ => {}
         }
     }

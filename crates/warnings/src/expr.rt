@@ -1,6 +1,7 @@
 //! What expressions and assignments do.
 
 use crate::action::{Action, Part, Variable};
+use crate::facts::{Given, Test, given_by, test_of};
 use crate::known::{Body, FileNames};
 use crate::numbers::{add_numbers, add_operator};
 use std::alloc::{AllocError, Allocator};
@@ -40,9 +41,9 @@ fn add_actions<'a, A: Allocator + Copy>(
                 span: *span,
             }))
         }
-        Expr::Call(_, args, _) => {
+        Expr::Call(x, args, span) => {
             add_all_actions(body, args.as_slice())?;
-            body.add(Action::Calls)
+            body.add(Action::Calls(x.text.as_str(), *span))
         }
         Expr::Parenthesized(e, _) | Expr::Cast(_, e, _) | Expr::Unary(_, e, _) => {
             add_actions(body, e.get())
@@ -90,6 +91,17 @@ pub(crate) fn add_expr<'a, A: Allocator + Copy>(
     add_actions(body, e)
 }
 
+/// The actions of the return of a value.
+pub(crate) fn add_return<'a, A: Allocator + Copy>(
+    file: &FileNames<'a, A>,
+    body: &mut Body<'a, A>,
+    e: &'a Expr<A>,
+) -> Result<(), AllocError> {
+    add_expr(file, body, e)?;
+    let given = given_by(body, e);
+    body.add(Action::Returns(given))
+}
+
 /// What full expressions do, in their order.
 pub(crate) fn add_exprs<'a, A: Allocator + Copy>(
     file: &FileNames<'a, A>,
@@ -109,7 +121,9 @@ pub(crate) fn add_condition<'a, A: Allocator + Copy>(
     part: Part,
     e: &'a Expr<A>,
 ) -> Result<(), AllocError> {
+    let test = test_of(&body.locals, e);
     body.add(Action::Begins(part))?;
+    body.add(Action::Tests(test))?;
     add_expr(file, body, e)?;
     body.add(Action::Ends(part))
 }
@@ -131,17 +145,21 @@ fn add_place<'a, A: Allocator + Copy>(
 fn add_write<'a, A: Allocator + Copy>(
     body: &mut Body<'a, A>,
     to: &'a Expr<A>,
+    given: Given<'a>,
 ) -> Result<(), AllocError> {
     match to {
         Expr::Variable(x) => {
             let written = variable(body, x);
-            body.add(Action::Writes(written))
+            body.add(Action::Writes(written, given))
         }
-        Expr::Element(x, _, span) => body.add(Action::Writes(Variable {
-            name: x.text.as_str(),
-            local: None,
-            span: *span,
-        })),
+        Expr::Element(x, _, span) => {
+            let written = Variable {
+                name: x.text.as_str(),
+                local: None,
+                span: *span,
+            };
+            body.add(Action::Writes(written, given))
+        }
         _ => Ok(()),
     }
 }
@@ -156,12 +174,14 @@ fn add_assignment<'a, A: Allocator + Copy>(
 ) -> Result<(), AllocError> {
     body.add(Action::Begins(Part::Assignment))?;
     add_place(file, body, to)?;
+    let mut given = given_by(body, e);
     if let Some(op) = op {
         add_operator(file, body, op, to, e, span_of(e))?;
         add_actions(body, to)?;
+        given = Given::Computed(Test::nothing());
     }
     add_expr(file, body, e)?;
-    add_write(body, to)?;
+    add_write(body, to, given)?;
     body.add(Action::Ends(Part::Assignment))
 }
 
@@ -175,7 +195,8 @@ pub(crate) fn add_first<'a, A: Allocator + Copy>(
     body.add(Action::Begins(Part::Assignment))?;
     add_expr(file, body, e)?;
     let written = variable(body, x);
-    body.add(Action::Writes(written))?;
+    let given = given_by(body, e);
+    body.add(Action::Writes(written, given))?;
     body.add(Action::Ends(Part::Assignment))
 }
 
@@ -192,7 +213,7 @@ pub(crate) fn add_simple<'a, A: Allocator + Copy>(
             body.add(Action::Begins(Part::Assignment))?;
             add_numbers(file, body, to)?;
             add_actions(body, to)?;
-            add_write(body, to)?;
+            add_write(body, to, Given::Computed(Test::nothing()))?;
             body.add(Action::Ends(Part::Assignment))
         }
     }

@@ -27,7 +27,7 @@ pub(crate) struct Local {
     pub(crate) declared: usize,
 }
 
-/// A body that is read: the locals that are known at a point of it, what it has done up to there, and what is warned of.
+/// A body that is read: the locals in scope at a point of it, its actions up to there, and its warnings.
 #[derive(Drop)]
 pub(crate) struct Body<'a, A: Allocator + Copy> {
     pub(crate) locals: Scope<'a, Local, A>,

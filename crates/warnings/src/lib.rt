@@ -7,16 +7,22 @@
 
 mod action;
 mod body;
+mod codes;
 mod constant;
 mod decisions;
+mod effects;
 mod expr;
+mod facts;
 mod flow;
+mod globals;
 mod known;
 mod numbers;
 mod program;
+mod returned;
 mod undone;
 mod waits;
 mod warning;
+mod whole;
 
 pub use program::warnings;
 pub use warning::{Warning, WarningKind};

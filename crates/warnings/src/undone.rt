@@ -52,7 +52,7 @@ fn add_before<A: Allocator>(
             Action::Begins(Part::Block | Part::Transaction(_)) if depth == 0 => {}
             Action::Begins(_) if depth == 0 => return Ok(()),
             Action::Begins(_) => depth = depth.saturating_sub(1),
-            Action::Writes(written) => {
+            Action::Writes(written, _) => {
                 let is_inner = matches!(written.local, Some(declared) if declared > begin);
                 if !is_inner {
                     found.push(Warning {

@@ -5,8 +5,10 @@ use lex::token::Span;
 /// What a warning says.
 #[derive(Clone, Copy, PartialEq, Eq, Debug)]
 pub enum WarningKind {
-    /// A loop in one transaction whose condition nothing changes: no other thread is seen there.
+    /// A loop whose condition no thread changes.
     EndlessWait,
+    /// A loop in one transaction that another thread would have to end: it ends only by an abort.
+    TransactionWait,
     /// A write before a cancel that always follows in the same transaction.
     UndoneWrite,
     /// A read in one transaction by which another one writes what was read.
@@ -32,6 +34,7 @@ impl WarningKind {
     pub fn name(self) -> &'static str {
         match self {
             WarningKind::EndlessWait => "endless-wait",
+            WarningKind::TransactionWait => "transaction-wait",
             WarningKind::UndoneWrite => "undone-write",
             WarningKind::StaleRead => "stale-read",
             WarningKind::NeverNegative => "never-negative",
@@ -50,7 +53,8 @@ impl WarningKind {
 pub struct Warning {
     pub kind: WarningKind,
     pub span: Span,
-    /// What it speaks of besides: the cancel that undoes a write, the write that a read decides.
+    /// What it speaks of besides: the cancel that undoes a write, the write that a read decides, the loop that a call
+    /// waits in.
     pub other: Option<Span>,
 }
 

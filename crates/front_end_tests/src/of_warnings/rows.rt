@@ -12,7 +12,7 @@ type Row = (&'static str, &'static str);
 
 /// The rows stand in a function, so that no proof but its own looks at them.
 fn rows() -> &'static [Row] {
-    static ROWS: [Row; 59] = [
+    static ROWS: [Row; 79] = [
         // waits
         (
             "int x; void worker(int self) { __transaction_atomic { while (x == 0) ; } }",
@@ -64,13 +64,97 @@ fn rows() -> &'static [Row] {
             "void worker(int self) { __transaction_atomic { while (self) ; } }",
             "",
         ),
-        // a transaction each time, also where a function is called in none
+        // waits for another thread in a transaction, which sees none
         (
-            "int x; void worker(int self) { while (__transaction_atomic (x) == 0) ; }",
+            "int x; void worker(int self) { if (self) __transaction_atomic { while (x == 0) ; } __transaction_atomic { x = 1; } }",
+            "transaction-wait 1:72\n",
+        ),
+        (
+            "int x; int ready(void) { return x; } void worker(int self) { if (self) __transaction_atomic { while (!ready()) ; } __transaction_atomic { x = 1; } }",
+            "transaction-wait 1:102\n",
+        ),
+        (
+            "int x; void worker(int self) { if (self) __transaction_atomic { int ok; do { ok = x > 2; } while (!ok); } __transaction_atomic { x = 3; } }",
+            "transaction-wait 1:99\n",
+        ),
+        (
+            "int x; void wait(void) { while (x == 0) ; } void worker(int self) { if (self) __transaction_atomic { wait(); } __transaction_atomic { x = 1; } }",
+            "transaction-wait 1:33\n",
+        ),
+        (
+            "int x; void wait(void) { while (!__transaction_atomic (x)) ; } void worker(int self) { wait(); __transaction_atomic { wait(); } __transaction_atomic { x = 1; } }",
+            "transaction-wait 1:119 1:33\n",
+        ),
+        (
+            "int x; void wait(void) { while (!__transaction_atomic (x)) ; } void both(void) { wait(); wait(); } void worker(int self) { wait(); both(); __transaction_atomic { both(); } __transaction_atomic { x = 1; } }",
+            "transaction-wait 1:163 1:33\n",
+        ),
+        (
+            "int x; void take(void) { int ok = 0; while (!ok) { __transaction_atomic { ok = !x; if (ok) x = 1; } } } void worker(int self) { take(); __transaction_atomic { x = 0; } __transaction_atomic { take(); } }",
+            "transaction-wait 1:192 1:45\n",
+        ),
+        // which the loop ends itself, also by a call
+        (
+            "int x; int next(void) { x++; return x > 3; } void worker(int self) { __transaction_atomic { while (!next()) ; } __transaction_atomic { x = 0; } }",
             "",
         ),
         (
-            "int x; void wait(void) { while (__transaction_atomic (x) == 0) ; } void worker(int self) { wait(); }",
+            "int x; void add(void) { x++; } void more(void) { add(); } void worker(int self) { __transaction_atomic { while (x < 3) more(); } __transaction_atomic { x = 0; } }",
+            "",
+        ),
+        // waits for what no thread writes
+        (
+            "int x; void worker(int self) { while (__transaction_atomic (x) == 0) ; }",
+            "endless-wait 1:39\n",
+        ),
+        (
+            "int x; void worker(int self) { while (__transaction_atomic (x) < 3) ; }",
+            "endless-wait 1:39\n",
+        ),
+        (
+            "int x, y; void worker(int self) { __transaction_atomic { x = 0; } while (!__transaction_atomic (x)) ; __transaction_atomic { y = 1; } }",
+            "endless-wait 1:74\n",
+        ),
+        (
+            "int x = 1, y; void worker(int self) { int busy = 1; while (busy) { __transaction_atomic { busy = x != 0; } } __transaction_atomic { y = 1; } }",
+            "endless-wait 1:60\n",
+        ),
+        (
+            "int x; int look(void) { int seen; __transaction_atomic { seen = x; } return seen; } void worker(int self) { while (!look()) ; }",
+            "endless-wait 1:116\n",
+        ),
+        (
+            "int x; int f(int n) { return n ? f(n - 1) : x; } void worker(int self) { __transaction_atomic { while (f(2) == 0) ; } }",
+            "endless-wait 1:104\n",
+        ),
+        (
+            "int x; int odd(int n); int even(int n) { return n ? odd(n - 1) : x; } int odd(int n) { return n ? even(n - 1) : 0; } void worker(int self) { __transaction_atomic { while (even(self) == 0) ; } }",
+            "endless-wait 1:172\n",
+        ),
+        // what some thread writes, or the loop counts
+        (
+            "int x; void set(int to) { __transaction_atomic { x = to; } } void worker(int self) { if (self) while (!__transaction_atomic (x)) ; else set(1); }",
+            "",
+        ),
+        (
+            "int x; void worker(int self) { int i = 0; while (i < __transaction_atomic (x)) i++; }",
+            "",
+        ),
+        (
+            "int x; int odd(int n); int even(int n) { return n ? odd(n - 1) : x; } int odd(int n) { x = n; return n ? even(n - 1) : 0; } void worker(int self) { __transaction_atomic { while (even(self) == 0) ; } }",
+            "",
+        ),
+        (
+            "int x; int unused(void) { while (!__transaction_atomic (x)) ; return 1; } void worker(int self) { __transaction_atomic { x = 1; } }",
+            "",
+        ),
+        // one that is given back, and a flag that is set once
+        (
+            "int x[3], n; void take(int i) { int ok = 0; while (!ok) { __transaction_atomic { ok = !x[i]; if (ok) x[i] = 1; } } } void worker(int self) { take(self % 3); __transaction_atomic { n++; } __transaction_atomic { x[self % 3] = 0; } }",
+            "",
+        ),
+        (
+            "int x; void worker(int self) { int first; __transaction_atomic { first = !x; x = 1; } while (!__transaction_atomic (x)) ; }",
             "",
         ),
         // writes that are undone
