@@ -4,12 +4,38 @@ use crate::facts::{Given, Test};
 use lex::token::Span;
 use syntax::tree::TransactionKind;
 
+/// Which element of an array is accessed, as far as its index shows.
+#[derive(Clone, Copy)]
+pub(crate) enum Cell {
+    /// A variable that is no array.
+    Whole,
+    /// The element of a constant index.
+    Constant(u64),
+    /// The element whose index is a local, by the number of the action that declares it.
+    Local(usize),
+    /// Any element.
+    Unknown,
+}
+
+impl Cell {
+    /// Whether two accesses to one global are to the same element.
+    pub(crate) fn is_same(self, other: Cell) -> bool {
+        match (self, other) {
+            (Cell::Whole, Cell::Whole) => true,
+            (Cell::Constant(one), Cell::Constant(other)) => one == other,
+            (Cell::Local(one), Cell::Local(other)) => one == other,
+            _ => false,
+        }
+    }
+}
+
 /// A variable that is read or written: a global or an element of an array, or a local, by the number of the action that
 /// declares it.
 #[derive(Clone, Copy)]
 pub(crate) struct Variable<'a> {
     pub(crate) name: &'a str,
     pub(crate) local: Option<usize>,
+    pub(crate) cell: Cell,
     pub(crate) span: Span,
 }
 
@@ -29,8 +55,23 @@ pub(crate) enum Part {
     Transaction(TransactionKind),
     /// A transaction that is an expression.
     ValueTransaction,
-    /// An assignment: what it reads, and the write after it.
-    Assignment,
+    /// A full expression or an assignment: what it reads, and the write after it.
+    Value,
+    /// An argument of a call.
+    Argument,
+    /// A remainder, with its operands.
+    Remainder,
+}
+
+/// An argument of a call.
+#[derive(Clone, Copy)]
+pub(crate) struct Argument<'a> {
+    /// The name of the function that is called.
+    pub(crate) called: &'a str,
+    /// The number of the parameter.
+    pub(crate) number: usize,
+    /// The local that it is, by the number of the action that declares it.
+    pub(crate) local: Option<usize>,
 }
 
 /// What a body does at one place.
@@ -44,6 +85,8 @@ pub(crate) enum Action<'a> {
     Writes(Variable<'a>, Given<'a>),
     /// A condition begins, and this is known of it.
     Tests(Test<'a>),
+    /// The end of an argument.
+    Passes(Argument<'a>),
     /// A call of the function of this name, and where it stands.
     Calls(&'a str, Span),
     /// A value is returned.

@@ -1,23 +1,63 @@
 //! What expressions and assignments do.
 
-use crate::action::{Action, Part, Variable};
+use crate::action::{Action, Argument, Cell, Part, Variable};
+use crate::constant::constant_of;
 use crate::facts::{Given, Test, given_by, test_of};
 use crate::known::{Body, FileNames};
 use crate::numbers::{add_numbers, add_operator};
+use lex::token::Span;
 use std::alloc::{AllocError, Allocator};
 use syntax::spans::span_of;
 use syntax::tree::{BinaryOp, Expr, Name, Simple};
 
-/// The variable that a name stands for.
-fn variable<'a, A: Allocator + Copy>(body: &Body<'a, A>, x: &'a Name<A>) -> Variable<'a> {
-    let local = match body.locals.newest(x.text.as_str()) {
+/// The number of the action that declares a local; none if the name is a global's.
+fn declared<'a, A: Allocator + Copy>(body: &Body<'a, A>, x: &'a Name<A>) -> Option<usize> {
+    match body.locals.newest(x.text.as_str()) {
         Some((_, local)) => Some(local.declared),
         None => None,
-    };
+    }
+}
+
+/// The variable that a name stands for.
+fn variable<'a, A: Allocator + Copy>(body: &Body<'a, A>, x: &'a Name<A>) -> Variable<'a> {
     Variable {
         name: x.text.as_str(),
-        local,
+        local: declared(body, x),
+        cell: Cell::Whole,
         span: x.span,
+    }
+}
+
+/// The local that an expression is, by the number of the action that declares it.
+fn local_of<'a, A: Allocator + Copy>(body: &Body<'a, A>, e: &'a Expr<A>) -> Option<usize> {
+    match e {
+        Expr::Variable(x) => declared(body, x),
+        Expr::Parenthesized(e, _) => local_of(body, e.get()),
+        _ => None,
+    }
+}
+
+/// Which element an index means.
+fn cell_of<'a, A: Allocator + Copy>(body: &Body<'a, A>, index: &'a Expr<A>) -> Cell {
+    match (constant_of(index), local_of(body, index)) {
+        (Some(value), _) => Cell::Constant(value.word),
+        (None, Some(local)) => Cell::Local(local),
+        (None, None) => Cell::Unknown,
+    }
+}
+
+/// The element of an array.
+fn element<'a, A: Allocator + Copy>(
+    body: &Body<'a, A>,
+    x: &'a Name<A>,
+    index: &'a Expr<A>,
+    span: Span,
+) -> Variable<'a> {
+    Variable {
+        name: x.text.as_str(),
+        local: None,
+        cell: cell_of(body, index),
+        span,
     }
 }
 
@@ -35,18 +75,21 @@ fn add_actions<'a, A: Allocator + Copy>(
         }
         Expr::Element(x, index, span) => {
             add_actions(body, index.get())?;
-            body.add(Action::Reads(Variable {
-                name: x.text.as_str(),
-                local: None,
-                span: *span,
-            }))
+            let read = element(body, x, index.get(), *span);
+            body.add(Action::Reads(read))
         }
         Expr::Call(x, args, span) => {
-            add_all_actions(body, args.as_slice())?;
+            add_arguments(body, x.text.as_str(), args.as_slice())?;
             body.add(Action::Calls(x.text.as_str(), *span))
         }
         Expr::Parenthesized(e, _) | Expr::Cast(_, e, _) | Expr::Unary(_, e, _) => {
             add_actions(body, e.get())
+        }
+        Expr::Binary(BinaryOp::Remainder, a, b, _) => {
+            body.add(Action::Begins(Part::Remainder))?;
+            add_actions(body, a.get())?;
+            add_actions(body, b.get())?;
+            body.add(Action::Ends(Part::Remainder))
         }
         Expr::Binary(_, a, b, _) | Expr::Logical(_, a, b, _) => {
             add_actions(body, a.get())?;
@@ -69,20 +112,31 @@ fn add_actions<'a, A: Allocator + Copy>(
     }
 }
 
-/// What expressions do, in their order.
+/// The actions of the arguments of a call, in their order.
 #[cycle(add_actions)]
-fn add_all_actions<'a, A: Allocator + Copy>(
+fn add_arguments<'a, A: Allocator + Copy>(
     body: &mut Body<'a, A>,
+    called: &'a str,
     all: &'a [Expr<A>],
 ) -> Result<(), AllocError> {
+    let mut number = 0usize;
     'each: for one in all {
+        body.add(Action::Begins(Part::Argument))?;
         add_actions(body, one)?;
+        let local = local_of(body, one);
+        body.add(Action::Passes(Argument {
+            called,
+            number,
+            local,
+        }))?;
+        body.add(Action::Ends(Part::Argument))?;
+        number = number.saturating_add(1);
     }
     Ok(())
 }
 
-/// What a full expression does (C11 6.8), and what is warned of its numbers.
-pub(crate) fn add_expr<'a, A: Allocator + Copy>(
+/// The actions of an expression that is part of a full one. Adds the warnings about its numbers.
+fn add_operand<'a, A: Allocator + Copy>(
     file: &FileNames<'a, A>,
     body: &mut Body<'a, A>,
     e: &'a Expr<A>,
@@ -91,15 +145,28 @@ pub(crate) fn add_expr<'a, A: Allocator + Copy>(
     add_actions(body, e)
 }
 
+/// What a full expression does (C11 6.8), and what is warned of its numbers.
+pub(crate) fn add_expr<'a, A: Allocator + Copy>(
+    file: &FileNames<'a, A>,
+    body: &mut Body<'a, A>,
+    e: &'a Expr<A>,
+) -> Result<(), AllocError> {
+    body.add(Action::Begins(Part::Value))?;
+    add_operand(file, body, e)?;
+    body.add(Action::Ends(Part::Value))
+}
+
 /// The actions of the return of a value.
 pub(crate) fn add_return<'a, A: Allocator + Copy>(
     file: &FileNames<'a, A>,
     body: &mut Body<'a, A>,
     e: &'a Expr<A>,
 ) -> Result<(), AllocError> {
-    add_expr(file, body, e)?;
+    body.add(Action::Begins(Part::Value))?;
+    add_operand(file, body, e)?;
     let given = given_by(body, e);
-    body.add(Action::Returns(given))
+    body.add(Action::Returns(given))?;
+    body.add(Action::Ends(Part::Value))
 }
 
 /// What full expressions do, in their order.
@@ -152,12 +219,8 @@ fn add_write<'a, A: Allocator + Copy>(
             let written = variable(body, x);
             body.add(Action::Writes(written, given))
         }
-        Expr::Element(x, _, span) => {
-            let written = Variable {
-                name: x.text.as_str(),
-                local: None,
-                span: *span,
-            };
+        Expr::Element(x, index, span) => {
+            let written = element(body, x, index.get(), *span);
             body.add(Action::Writes(written, given))
         }
         _ => Ok(()),
@@ -172,7 +235,7 @@ fn add_assignment<'a, A: Allocator + Copy>(
     op: Option<BinaryOp>,
     e: &'a Expr<A>,
 ) -> Result<(), AllocError> {
-    body.add(Action::Begins(Part::Assignment))?;
+    body.add(Action::Begins(Part::Value))?;
     add_place(file, body, to)?;
     let mut given = given_by(body, e);
     if let Some(op) = op {
@@ -180,9 +243,9 @@ fn add_assignment<'a, A: Allocator + Copy>(
         add_actions(body, to)?;
         given = Given::Computed(Test::nothing());
     }
-    add_expr(file, body, e)?;
+    add_operand(file, body, e)?;
     add_write(body, to, given)?;
-    body.add(Action::Ends(Part::Assignment))
+    body.add(Action::Ends(Part::Value))
 }
 
 /// The first value of the variable of a name.
@@ -192,12 +255,12 @@ pub(crate) fn add_first<'a, A: Allocator + Copy>(
     x: &'a Name<A>,
     e: &'a Expr<A>,
 ) -> Result<(), AllocError> {
-    body.add(Action::Begins(Part::Assignment))?;
-    add_expr(file, body, e)?;
+    body.add(Action::Begins(Part::Value))?;
+    add_operand(file, body, e)?;
     let written = variable(body, x);
     let given = given_by(body, e);
     body.add(Action::Writes(written, given))?;
-    body.add(Action::Ends(Part::Assignment))
+    body.add(Action::Ends(Part::Value))
 }
 
 /// What a simple statement does.
@@ -210,11 +273,11 @@ pub(crate) fn add_simple<'a, A: Allocator + Copy>(
         Simple::Evaluate(e) => add_expr(file, body, e),
         Simple::Assign(to, op, e) => add_assignment(file, body, to, *op, e),
         Simple::Adjust(to, _) => {
-            body.add(Action::Begins(Part::Assignment))?;
+            body.add(Action::Begins(Part::Value))?;
             add_numbers(file, body, to)?;
             add_actions(body, to)?;
             add_write(body, to, Given::Computed(Test::nothing()))?;
-            body.add(Action::Ends(Part::Assignment))
+            body.add(Action::Ends(Part::Value))
         }
     }
 }

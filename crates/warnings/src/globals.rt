@@ -1,7 +1,8 @@
 //! What a whole program writes into each global.
 
-use crate::action::{Action, Variable};
+use crate::action::{Action, Cell, Variable};
 use crate::codes::Codes;
+use crate::contexts::Context;
 use crate::facts::Given;
 use crate::known::FileNames;
 use lex::token::Span;
@@ -19,6 +20,8 @@ pub(crate) struct Held {
     pub(crate) zero: Option<Span>,
     /// A write that may give another number.
     pub(crate) nonzero: Option<Span>,
+    /// Whether a write may be to an element that is not the writing thread's own.
+    pub(crate) is_shared: bool,
 }
 
 impl Held {
@@ -53,6 +56,7 @@ fn first_of<A: Allocator>(global: &Global<A>) -> Held {
         begins_nonzero: false,
         zero: None,
         nonzero: None,
+        is_shared: false,
     };
     'first: for one in global.first.iter() {
         held.begins_zero = held.begins_zero || one.value == 0;
@@ -68,6 +72,7 @@ fn nothing_held() -> Held {
         begins_nonzero: false,
         zero: None,
         nonzero: None,
+        is_shared: false,
     }
 }
 
@@ -101,20 +106,30 @@ fn first_span(one: Option<Span>, other: Span) -> Option<Span> {
     }
 }
 
+/// Whether an access is to the element of the thread's own number, given which locals of the function are that number.
+pub(crate) fn is_own(own: &[bool], variable: Variable<'_>) -> bool {
+    match variable.cell {
+        Cell::Local(local) => own.get(local).copied().unwrap_or(false),
+        Cell::Whole | Cell::Constant(_) | Cell::Unknown => false,
+    }
+}
+
 /// Adds a write.
-fn add_given(held: &mut Held, variable: Variable<'_>, given: Given<'_>) {
+fn add_given(held: &mut Held, variable: Variable<'_>, given: Given<'_>, is_own: bool) {
     if !matches!(given, Given::Nonzero) {
         held.zero = first_span(held.zero, variable.span);
     }
     if !matches!(given, Given::Zero) {
         held.nonzero = first_span(held.nonzero, variable.span);
     }
+    held.is_shared = held.is_shared || !is_own;
 }
 
 /// Adds the writes of a function.
 fn add_writes<'a, A: Allocator + Copy>(
     file: &FileNames<'a, A>,
     all: &mut Vec<Held, A>,
+    own: &[bool],
     actions: &[Action<'a>],
 ) {
     'actions: for action in actions {
@@ -122,7 +137,7 @@ fn add_writes<'a, A: Allocator + Copy>(
             Action::Writes(variable, given) if variable.local.is_none() => {
                 if let Some(number) = file.index_of(variable.name) {
                     if let Some(held) = all.get_mut(number) {
-                        add_given(held, *variable, *given);
+                        add_given(held, *variable, *given, is_own(own, *variable));
                     }
                 }
             }
@@ -137,10 +152,15 @@ pub(crate) fn held_by<'a, A: Allocator + Copy>(
     file: &FileNames<'a, A>,
     items: &[Item<A>],
     codes: &Codes<'a, A>,
+    contexts: &[Context<A>],
 ) -> Result<Vec<Held, A>, AllocError> {
     let mut all = held_at_start(alloc, file, items)?;
-    'functions: for code in codes.all.iter() {
-        add_writes(file, &mut all, code.actions.as_slice());
+    'functions: for (number, code) in codes.all.iter().enumerate() {
+        let own = match contexts.get(number) {
+            Some(context) => context.own.as_slice(),
+            None => &[],
+        };
+        add_writes(file, &mut all, own, code.actions.as_slice());
     }
     Ok(all)
 }

@@ -9,6 +9,8 @@ mod action;
 mod body;
 mod codes;
 mod constant;
+mod contexts;
+mod decided;
 mod decisions;
 mod effects;
 mod expr;

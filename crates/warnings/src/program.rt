@@ -17,11 +17,9 @@ pub fn warnings<A: Allocator + Copy>(
     let whole = whole_of(alloc, accepted.safe().typed().unit(), &mut found)?;
     'functions: for code in whole.codes.all.iter() {
         add_undone(&mut found, code.actions.as_slice())?;
-        if whole.outside.contains(code.name) {
-            add_decisions(alloc, &mut found, code.actions.as_slice())?;
-        }
     }
     add_waits(alloc, &whole, &mut found)?;
+    add_decisions(alloc, &whole, &mut found)?;
     found.sort_by_key(|it| it.span.start)?;
     Ok(found)
 }

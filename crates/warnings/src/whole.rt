@@ -3,6 +3,7 @@
 use crate::action::{Action, Part};
 use crate::body::{add_parameters, add_part};
 use crate::codes::{Code, Codes};
+use crate::contexts::{Context, contexts_of};
 use crate::effects::{Effect, effects_of};
 use crate::facts::Given;
 use crate::flow::all_complete;
@@ -24,6 +25,7 @@ pub(crate) struct Whole<'a, A: Allocator + Copy> {
     pub(crate) effects: Vec<Effect<A>, A>,
     pub(crate) held: Vec<Held, A>,
     pub(crate) returned: Vec<Returned<'a>, A>,
+    pub(crate) contexts: Vec<Context<A>, A>,
     /// The functions that may run outside of transactions: `worker`, and each that one of them calls in no transaction.
     pub(crate) outside: FunctionSet<'a, A>,
     /// The functions that a thread may run.
@@ -36,6 +38,14 @@ impl<'a, A: Allocator + Copy> Whole<'a, A> {
         match self.file.index_of(global) {
             Some(number) => self.held.get(number).copied(),
             None => None,
+        }
+    }
+
+    /// Which parameters of a function are the thread's own number.
+    pub(crate) fn own_of(&self, number: usize) -> &[bool] {
+        match self.contexts.get(number) {
+            Some(context) => context.own.as_slice(),
+            None => &[],
         }
     }
 }
@@ -146,7 +156,8 @@ pub(crate) fn whole_of<'a, A: Allocator + Copy>(
     let file = file_names(alloc, unit.key, items)?;
     let codes = codes_of(alloc, unit.key, &file, found, items)?;
     let effects = effects_of(alloc, &file, &codes)?;
-    let held = held_by(alloc, &file, items, &codes)?;
+    let contexts = contexts_of(alloc, &codes)?;
+    let held = held_by(alloc, &file, items, &codes, contexts.as_slice())?;
     let returned = returned_by(alloc, &codes)?;
     let links = links_of(alloc, unit.key, items)?;
     let outside = least(alloc, unit.key, links.outside.as_slice())?;
@@ -157,6 +168,7 @@ pub(crate) fn whole_of<'a, A: Allocator + Copy>(
         effects,
         held,
         returned,
+        contexts,
         outside,
         reached,
     })

@@ -12,7 +12,7 @@ type Row = (&'static str, &'static str);
 
 /// The rows stand in a function, so that no proof but its own looks at them.
 fn rows() -> &'static [Row] {
-    static ROWS: [Row; 79] = [
+    static ROWS: [Row; 100] = [
         // waits
         (
             "int x; void worker(int self) { __transaction_atomic { while (x == 0) ; } }",
@@ -251,6 +251,95 @@ fn rows() -> &'static [Row] {
         // a function that runs in transactions alone
         (
             "int x; void f(void) { int y; __transaction_atomic { y = x; } __transaction_atomic { x = y + 1; } } void worker(int self) { __transaction_atomic { f(); } }",
+            "",
+        ),
+        // through calls
+        (
+            "int x; int look(void) { return __transaction_atomic (x); } void set(int to) { __transaction_atomic { x = to; } } void worker(int self) { set(look() + 1); }",
+            "stale-read 1:142 1:102\n",
+        ),
+        (
+            "int x; int look(void) { int y; __transaction_atomic { y = x; } return y > 0; } void buy(void) { __transaction_atomic { x--; } } void worker(int self) { if (look()) buy(); }",
+            "stale-read 1:157 1:120\n",
+        ),
+        (
+            "int x; int look(void) { if (__transaction_atomic (x) > 0) return 1; return 0; } void buy(void) { __transaction_atomic { x--; } } void worker(int self) { int free = look(); if (free) { buy(); } }",
+            "stale-read 1:165 1:121\n",
+        ),
+        (
+            "int x; int look(void) { return x; } void set(int to) { x = to; } void worker(int self) { int y; __transaction_atomic { y = look(); } __transaction_atomic { set(y + 1); } }",
+            "stale-read 1:124 1:56\n",
+        ),
+        (
+            "int x; void set(int to) { __transaction_atomic { x = to; } } void change(int to) { set(to + 1); } void worker(int self) { change(__transaction_atomic (x)); }",
+            "stale-read 1:152 1:50\n",
+        ),
+        (
+            "int x; void down(int n, int to) { if (n) down(n - 1, to); else __transaction_atomic { x = to; } } void worker(int self) { down(3, __transaction_atomic (x)); }",
+            "stale-read 1:153 1:87\n",
+        ),
+        // through calls, in one transaction, checked again, or of an element that was taken
+        (
+            "int x; int look(void) { return x; } void set(int to) { x = to; } void worker(int self) { __transaction_atomic { set(look() + 1); } }",
+            "",
+        ),
+        (
+            "int x; int look(void) { return __transaction_atomic (x); } void buy(void) { __transaction_atomic { if (x > 0) x--; } } void worker(int self) { if (look()) buy(); }",
+            "",
+        ),
+        (
+            "int x; int look(void) { return __transaction_atomic (x); } int may(void) { return x > 0; } void buy(void) { __transaction_atomic { if (may()) x--; } } void worker(int self) { if (look()) buy(); }",
+            "",
+        ),
+        (
+            "int x; int take(void) { int ok; __transaction_atomic { ok = x > 0; if (ok) x--; } return ok; } void give(void) { __transaction_atomic { x++; } } void worker(int self) { if (take()) give(); }",
+            "",
+        ),
+        (
+            "int a[9], n; int pop(void) { int r; __transaction_atomic { n--; r = a[n]; } return r; } void push(int v) { __transaction_atomic { a[n] = v; n++; } } void worker(int self) { push(pop() + 1); }",
+            "",
+        ),
+        // an element that each thread has for itself, and one that others write
+        (
+            "int a[64]; void worker(int self) { int t = __transaction_atomic (a[self]); __transaction_atomic { a[self] = t + 1; } }",
+            "",
+        ),
+        (
+            "int a[64]; void add(int me) { int t = __transaction_atomic (a[me]); __transaction_atomic { a[me] = t + 1; } } void worker(int self) { add(self); add(self); }",
+            "",
+        ),
+        (
+            "int a[64]; void worker(int self) { int t = __transaction_atomic (a[self]); __transaction_atomic { a[self] = t + 1; } __transaction_atomic { a[0] = 0; } }",
+            "stale-read 1:66 1:99\n",
+        ),
+        (
+            "int a[64]; void add(int me) { int t = __transaction_atomic (a[me]); __transaction_atomic { a[me] = t + 1; } } void worker(int self) { add(self); add(1 - self); }",
+            "stale-read 1:61 1:92\n",
+        ),
+        // a wait for what each thread may take
+        (
+            "int x; void worker(int self) { while (!__transaction_atomic (x > 0)) ; __transaction_atomic { x = x - 1; } }",
+            "stale-read 1:39 1:95\n",
+        ),
+        (
+            "int x; void worker(int self) { int mine = 0; while (!mine) { __transaction_atomic { mine = !x; } } __transaction_atomic { x = 1; } __transaction_atomic { x = 0; } }",
+            "stale-read 1:53 1:123\n",
+        ),
+        (
+            "int x; void wait(void) { while (__transaction_atomic (x)) ; } void worker(int self) { while (__transaction_atomic (x)) ; __transaction_atomic { x = 1; } __transaction_atomic { x = 0; } wait(); }",
+            "stale-read 1:94 1:145\n",
+        ),
+        // one that looks again, one of a single thread, and one that another thread ends again
+        (
+            "int x; void worker(int self) { while (!__transaction_atomic (x > 0)) ; __transaction_atomic { if (x > 0) x = x - 1; } }",
+            "",
+        ),
+        (
+            "int x; void take(void) { while (!__transaction_atomic (x)) ; __transaction_atomic { x = 0; } } void worker(int self) { if (self == 0) __transaction_atomic { x = 1; } else take(); }",
+            "",
+        ),
+        (
+            "int x, y; void worker(int self) { while (!__transaction_atomic (x)) ; __transaction_atomic { y = x; } __transaction_atomic { x = 1; } }",
             "",
         ),
         // comparisons
