@@ -24,6 +24,11 @@ pub fn warning_words(name: &str) -> WarningWords {
             "the wait is at ",
             "only an abort can end it: wait outside the transaction, as in while (!__transaction_atomic (ready)) ;",
         ),
+        "kept-lock" => (
+            "no thread gives this lock back",
+            "it is taken at ",
+            "a thread that takes it next waits for ever",
+        ),
         "undone-write" => (
             "a cancel always undoes this write",
             "the cancel is at ",

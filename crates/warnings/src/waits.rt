@@ -172,7 +172,14 @@ fn unmet(held: Held, fact: GlobalFact<'_>, span: Span) -> Option<Warning> {
     if held.is_constant() || !held.begins_with(fact.is_zero) {
         return Some(Warning::at(WarningKind::EndlessWait, span));
     }
-    None
+    match held.write_of(!fact.is_zero) {
+        Some(taken) => Some(Warning {
+            kind: WarningKind::KeptLock,
+            span,
+            other: Some(taken),
+        }),
+        None => None,
+    }
 }
 
 /// The warning about a wait that another thread would have to end.

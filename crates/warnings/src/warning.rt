@@ -9,6 +9,8 @@ pub enum WarningKind {
     EndlessWait,
     /// A loop in one transaction that another thread would have to end: it ends only by an abort.
     TransactionWait,
+    /// A wait for a lock that is taken and never given back.
+    KeptLock,
     /// A write before a cancel that always follows in the same transaction.
     UndoneWrite,
     /// A read in one transaction by which another one writes what was read.
@@ -35,6 +37,7 @@ impl WarningKind {
         match self {
             WarningKind::EndlessWait => "endless-wait",
             WarningKind::TransactionWait => "transaction-wait",
+            WarningKind::KeptLock => "kept-lock",
             WarningKind::UndoneWrite => "undone-write",
             WarningKind::StaleRead => "stale-read",
             WarningKind::NeverNegative => "never-negative",
@@ -54,7 +57,7 @@ pub struct Warning {
     pub kind: WarningKind,
     pub span: Span,
     /// What it speaks of besides: the cancel that undoes a write, the write that a read decides, the loop that a call
-    /// waits in.
+    /// waits in, or the write that takes a lock.
     pub other: Option<Span>,
 }
 

@@ -12,7 +12,7 @@ type Row = (&'static str, &'static str);
 
 /// The rows stand in a function, so that no proof but its own looks at them.
 fn rows() -> &'static [Row] {
-    static ROWS: [Row; 100] = [
+    static ROWS: [Row; 103] = [
         // waits
         (
             "int x; void worker(int self) { __transaction_atomic { while (x == 0) ; } }",
@@ -147,6 +147,19 @@ fn rows() -> &'static [Row] {
         (
             "int x; int unused(void) { while (!__transaction_atomic (x)) ; return 1; } void worker(int self) { __transaction_atomic { x = 1; } }",
             "",
+        ),
+        // locks that no thread gives back
+        (
+            "int x, n; void worker(int self) { int mine = 0; while (!mine) { __transaction_atomic { mine = !x; if (mine) x = 1; } } __transaction_atomic { n++; } }",
+            "kept-lock 1:56 1:109\n",
+        ),
+        (
+            "int x, n; int try(void) { int ok; __transaction_atomic { ok = x == 0; if (ok) x = 1; } return ok; } void worker(int self) { while (!try()) ; __transaction_atomic { n++; } }",
+            "kept-lock 1:132 1:79\n",
+        ),
+        (
+            "int x[3], n; void take(int i) { int ok = 0; while (!ok) { __transaction_atomic { ok = !x[i]; x[i] = 1; } } } void worker(int self) { take(self % 3); __transaction_atomic { n++; } }",
+            "kept-lock 1:52 1:94\n",
         ),
         // one that is given back, and a flag that is set once
         (
