@@ -59,6 +59,11 @@ pub fn warning_words(name: &str) -> WarningWords {
             "",
             "a thread that gets here ends with trap 3: an array of N cells has the indices 0 to N - 1",
         ),
+        "own-index" => (
+            "an index that is too large for some threads",
+            "code for more threads is at ",
+            "a thread whose number is not below the length of the array ends here with trap 3",
+        ),
         "shift-outside" => (
             "a shift count out of range",
             "",

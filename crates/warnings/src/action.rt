@@ -85,6 +85,13 @@ pub(crate) enum Action<'a> {
     Writes(Variable<'a>, Given<'a>),
     /// A condition begins, and this is known of it.
     Tests(Test<'a>),
+    /// A local, by the number of the action that declares it, is compared with a constant or divided by one. If it is
+    /// the number of a thread, that is of use only with so many threads.
+    Counts {
+        local: usize,
+        threads: u64,
+        span: Span,
+    },
     /// The end of an argument.
     Passes(Argument<'a>),
     /// A call of the function of this name, and where it stands.
@@ -94,5 +101,8 @@ pub(crate) enum Action<'a> {
     /// A `break`, a `continue` or a `return`.
     Jumps,
     /// A cancel of the innermost transaction, or of the outer one, and where it stands.
-    Cancels { is_outer: bool, span: Span },
+    Cancels {
+        is_outer: bool,
+        span: Span,
+    },
 }

@@ -14,6 +14,8 @@ pub(crate) struct Context<A: Allocator> {
     pub(crate) own: Vec<bool, A>,
     /// Whether each call depends on a comparison of the own number, so that it may be that of a single thread.
     pub(crate) is_selected: bool,
+    /// Whether some call depends on the own number in any way.
+    pub(crate) is_limited: bool,
 }
 
 /// The conditions on the own number that hold at a point of a body.
@@ -24,8 +26,9 @@ pub(crate) struct Guards<A: Allocator> {
     /// How many remainders are read.
     remainders: usize,
     selecting: usize,
-    /// How many of these there were where each part began.
-    levels: Vec<usize, A>,
+    limiting: usize,
+    /// How many of both there were where each part began.
+    levels: Vec<(usize, usize), A>,
 }
 
 impl<A: Allocator + Copy> Guards<A> {
@@ -35,6 +38,7 @@ impl<A: Allocator + Copy> Guards<A> {
             conditions: 0,
             remainders: 0,
             selecting: 0,
+            limiting: 0,
             levels: Vec::new(alloc),
         }
     }
@@ -44,9 +48,14 @@ impl<A: Allocator + Copy> Guards<A> {
         self.selecting > 0
     }
 
+    /// Whether the own number has a say in whether this point is reached.
+    pub(crate) fn is_limited(&self) -> bool {
+        self.limiting > 0
+    }
+
     /// Begins a part.
     fn begin(&mut self, part: Part) -> Result<(), AllocError> {
-        self.levels.push(self.selecting)?;
+        self.levels.push((self.selecting, self.limiting))?;
         match part {
             Part::Condition | Part::LoopCondition(_) => {
                 self.conditions = self.conditions.saturating_add(1);
@@ -59,20 +68,27 @@ impl<A: Allocator + Copy> Guards<A> {
 
     /// Ends a part.
     fn end(&mut self, part: Part) {
-        let selecting = self.levels.pop().unwrap_or(0);
+        let (selecting, limiting) = self.levels.pop().unwrap_or((0, 0));
         match part {
             Part::Condition | Part::LoopCondition(_) => {
                 self.conditions = self.conditions.saturating_sub(1);
             }
             Part::Remainder => self.remainders = self.remainders.saturating_sub(1),
-            Part::Choice | Part::Loop if self.conditions == 0 => self.selecting = selecting,
+            Part::Choice | Part::Loop if self.conditions == 0 => {
+                self.selecting = selecting;
+                self.limiting = limiting;
+            }
             _ => {}
         }
     }
 
     /// Reads a variable.
     fn read(&mut self, own: &[bool], variable: Variable<'_>) {
-        if self.conditions > 0 && self.remainders == 0 && is_local_own(own, variable.local) {
+        if self.conditions == 0 || !is_local_own(own, variable.local) {
+            return;
+        }
+        self.limiting = self.limiting.saturating_add(1);
+        if self.remainders == 0 {
             self.selecting = self.selecting.saturating_add(1);
         }
     }
@@ -126,6 +142,7 @@ fn first_context<A: Allocator + Copy>(
     Ok(Context {
         own,
         is_selected: code.name != "worker",
+        is_limited: false,
     })
 }
 
@@ -152,11 +169,13 @@ fn is_called<A: Allocator + Copy>(
     contexts: &mut [Context<A>],
     called: usize,
     is_selected: bool,
+    is_limited: bool,
 ) -> bool {
     match contexts.get_mut(called) {
         Some(context) => {
-            let differs = context.is_selected && !is_selected;
+            let differs = context.is_selected && !is_selected || !context.is_limited && is_limited;
             context.is_selected = context.is_selected && is_selected;
+            context.is_limited = context.is_limited || is_limited;
             differs
         }
         None => false,
@@ -174,9 +193,11 @@ fn passes_on<'a, A: Allocator + Copy>(
     let mut guards = Guards::new(alloc);
     let mut own = Vec::new(alloc);
     let mut is_selected = false;
+    let mut is_limited = false;
     if let Some(context) = contexts.get(caller) {
         own.extend_from_slice(context.own.as_slice())?;
         is_selected = context.is_selected;
+        is_limited = context.is_limited;
     }
     let mut differs = false;
     'actions: for action in code.actions.iter() {
@@ -190,7 +211,12 @@ fn passes_on<'a, A: Allocator + Copy>(
             }
             Action::Calls(name, _) => {
                 if let Some(called) = codes.number_of(name) {
-                    let is_new = is_called(contexts, called, is_selected || guards.is_selected());
+                    let is_new = is_called(
+                        contexts,
+                        called,
+                        is_selected || guards.is_selected(),
+                        is_limited || guards.is_limited(),
+                    );
                     differs = differs || is_new;
                 }
             }
@@ -207,6 +233,7 @@ fn forget<A: Allocator + Copy>(contexts: &mut [Context<A>]) {
             *is_own = false;
         }
         context.is_selected = true;
+        context.is_limited = true;
     }
 }
 

@@ -10,6 +10,9 @@ use std::alloc::{AllocError, Allocator};
 use syntax::spans::span_of;
 use syntax::tree::{BinaryOp, Expr, Name, Simple};
 
+/// The most threads that a program has.
+const MOST_THREADS: u64 = 64;
+
 /// The number of the action that declares a local; none if the name is a global's.
 fn declared<'a, A: Allocator + Copy>(body: &Body<'a, A>, x: &'a Name<A>) -> Option<usize> {
     match body.locals.newest(x.text.as_str()) {
@@ -61,6 +64,41 @@ fn element<'a, A: Allocator + Copy>(
     }
 }
 
+/// How many numbers of threads there are at least, if it is of use to compare one with a constant or to divide it.
+fn threads_of(op: BinaryOp, constant: u64) -> Option<u64> {
+    match op {
+        BinaryOp::Remainder => Some(constant),
+        BinaryOp::Equal | BinaryOp::NotEqual | BinaryOp::Less | BinaryOp::GreaterEqual => Some(
+            constant.saturating_add(1),
+        ),
+        BinaryOp::Greater | BinaryOp::LessEqual => Some(constant.saturating_add(2)),
+        _ => None,
+    }
+}
+
+/// Adds that a local is compared with a constant on its right, or divided by it.
+fn add_count<'a, A: Allocator + Copy>(
+    body: &mut Body<'a, A>,
+    op: BinaryOp,
+    a: &'a Expr<A>,
+    b: &'a Expr<A>,
+    span: Span,
+) -> Result<(), AllocError> {
+    match (local_of(body, a), constant_of(b)) {
+        (Some(local), Some(value)) if value.word <= MOST_THREADS => match threads_of(
+            op, value.word,
+        ) {
+            Some(threads) => body.add(Action::Counts {
+                local,
+                threads,
+                span,
+            }),
+            None => Ok(()),
+        },
+        _ => Ok(()),
+    }
+}
+
 /// What an expression does.
 #[cycle(add_actions)]
 fn add_actions<'a, A: Allocator + Copy>(
@@ -85,13 +123,19 @@ fn add_actions<'a, A: Allocator + Copy>(
         Expr::Parenthesized(e, _) | Expr::Cast(_, e, _) | Expr::Unary(_, e, _) => {
             add_actions(body, e.get())
         }
-        Expr::Binary(BinaryOp::Remainder, a, b, _) => {
+        Expr::Binary(BinaryOp::Remainder, a, b, span) => {
             body.add(Action::Begins(Part::Remainder))?;
             add_actions(body, a.get())?;
             add_actions(body, b.get())?;
-            body.add(Action::Ends(Part::Remainder))
+            body.add(Action::Ends(Part::Remainder))?;
+            add_count(body, BinaryOp::Remainder, a.get(), b.get(), *span)
         }
-        Expr::Binary(_, a, b, _) | Expr::Logical(_, a, b, _) => {
+        Expr::Binary(op, a, b, span) => {
+            add_actions(body, a.get())?;
+            add_actions(body, b.get())?;
+            add_count(body, *op, a.get(), b.get(), *span)
+        }
+        Expr::Logical(_, a, b, _) => {
             add_actions(body, a.get())?;
             add_actions(body, b.get())
         }

@@ -17,6 +17,7 @@ mod expr;
 mod facts;
 mod flow;
 mod globals;
+mod indices;
 mod known;
 mod numbers;
 mod program;

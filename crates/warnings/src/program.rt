@@ -1,6 +1,7 @@
 //! The warnings of a program.
 
 use crate::decisions::add_decisions;
+use crate::indices::add_indices;
 use crate::undone::add_undone;
 use crate::waits::add_waits;
 use crate::warning::Warning;
@@ -20,6 +21,7 @@ pub fn warnings<A: Allocator + Copy>(
     }
     add_waits(alloc, &whole, &mut found)?;
     add_decisions(alloc, &whole, &mut found)?;
+    add_indices(alloc, &whole, &mut found)?;
     found.sort_by_key(|it| it.span.start)?;
     Ok(found)
 }

@@ -23,6 +23,8 @@ pub enum WarningKind {
     ZeroDivisor,
     /// A constant index outside its array.
     IndexOutside,
+    /// An index by the thread's own number that is outside its array in threads which another place counts on.
+    OwnIndex,
     /// A shift by a constant out of its range.
     ShiftOutside,
     /// A function with a value whose end can be reached.
@@ -44,6 +46,7 @@ impl WarningKind {
             WarningKind::NegativeAsUnsigned => "negative-as-unsigned",
             WarningKind::ZeroDivisor => "zero-divisor",
             WarningKind::IndexOutside => "index-outside",
+            WarningKind::OwnIndex => "own-index",
             WarningKind::ShiftOutside => "shift-outside",
             WarningKind::MissingReturn => "missing-return",
             WarningKind::EmptyIf => "empty-if",
@@ -56,8 +59,8 @@ impl WarningKind {
 pub struct Warning {
     pub kind: WarningKind,
     pub span: Span,
-    /// What it speaks of besides: the cancel that undoes a write, the write that a read decides, the loop that a call
-    /// waits in, or the write that takes a lock.
+    /// What it speaks of besides: the cancel that undoes a write, the write that a read decides,
+    /// the loop that a call waits in, the write that takes a lock, or the place that counts on more threads.
     pub other: Option<Span>,
 }
 

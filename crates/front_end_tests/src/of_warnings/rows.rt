@@ -12,7 +12,7 @@ type Row = (&'static str, &'static str);
 
 /// The rows stand in a function, so that no proof but its own looks at them.
 fn rows() -> &'static [Row] {
-    static ROWS: [Row; 103] = [
+    static ROWS: [Row; 107] = [
         // waits
         (
             "int x; void worker(int self) { __transaction_atomic { while (x == 0) ; } }",
@@ -403,6 +403,23 @@ fn rows() -> &'static [Row] {
         ),
         (
             "int a[4]; void worker(int self) { __transaction_atomic { a[3] = a[self]; } }",
+            "",
+        ),
+        // a thread's own element
+        (
+            "int a[2], b[4]; void worker(int self) { __transaction_atomic { a[self] = b[self]; } }",
+            "own-index 1:64 1:74\n",
+        ),
+        (
+            "int a[2], x; void put(int me) { __transaction_atomic { a[me] = 1; } } void worker(int self) { put(self); if (self == 3) __transaction_atomic { x = 1; } }",
+            "own-index 1:56 1:110\n",
+        ),
+        (
+            "int a[2], x; void put(int me) { if (me < 2) __transaction_atomic { a[me] = 1; } } void worker(int self) { put(self); if (self == 3) __transaction_atomic { x = 1; } }",
+            "",
+        ),
+        (
+            "int a[2], x; void worker(int self) { __transaction_atomic { a[self] = 1; } if (self == 1) __transaction_atomic { x = 1; } }",
             "",
         ),
         (
