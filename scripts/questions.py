@@ -1,5 +1,5 @@
 #!/usr/bin/env python3
-"""Checks the questions in examples/properties, examples/mistakes and examples/fair, and what `txc test` makes of them.
+"""Checks the questions in the folders of examples, and what `txc test` makes of them.
 
 Each of these programs has a question, and all pass. So does each command that --list prints, under sh. The objects of
 `--format json` have the exit statuses that `txc outcomes` has for the same words. With each expected answer changed, the
@@ -75,7 +75,7 @@ def read(path):
 
 def main():
     txc = os.path.abspath(asked(__doc__, TXC).txc)
-    files = sorted(it for folder in ("properties", "mistakes", "fair") for it in glob.glob(f"examples/{folder}/*.c", root_dir=TOP))
+    files = sorted(it for folder in ("properties", "mistakes", "fair", "blocked") for it in glob.glob(f"examples/{folder}/*.c", root_dir=TOP))
     told = ran([txc, "test", *files])
     wrong = [told.stdout + told.stderr] if told.returncode else []
     wrong += [f"{file} has no question" for file in files if not QUESTION.search(read(file))]

@@ -48,6 +48,7 @@ PROMISES = (
     ("`txc outcomes --always`, `--final`", "AnswersQuestions"),
     ("`txc outcomes --threads any`", "AnswersCoverage"),
     ("`txc outcomes --fair`", "AnswersFair"),
+    ("`txc outcomes --blocked`", "AnswersBlocked"),
     ("`txc outcomes --refines`, `--expect`, `--admits`", "ComparesOutcomes"),
     ("`txc certify`", "CertifiesReport"),
     ("`txc replay`, by the source alone", "PrintsReport RunsInSomeOrder behind_events"),

@@ -19,7 +19,7 @@ _txc() {
                     source) words='--verbose --format --threads --order --ticks --help' ;;
                     trace) words='--verbose --format --threads --order --property --full --help' ;;
                     explore) words='--verbose --format --threads --order --always --help' ;;
-                    outcomes) words='--verbose --format --threads --steps --limit --memory --time --refines --expect --admits --always --final --keep-going --trace --fair --help' ;;
+                    outcomes) words='--verbose --format --threads --steps --limit --memory --time --refines --expect --admits --always --final --keep-going --trace --fair --blocked --help' ;;
                     certify) words='--verbose --format --threads --order-file --report --ticks --help' ;;
                     test) words='--format --list --help' ;;
                     explain) words='--help' ;;

@@ -79,6 +79,7 @@ complete -c txc -n '__fish_seen_subcommand_from outcomes' -l final -x -d 'Check 
 complete -c txc -n '__fish_seen_subcommand_from outcomes' -l keep-going -d 'Continue the search after each function has failed, and list all deadlocks'
 complete -c txc -n '__fish_seen_subcommand_from outcomes' -l trace -d 'Show how the first failure, deadlock and trap come about, as `txc trace` does, on standard error [default on a terminal]'
 complete -c txc -n '__fish_seen_subcommand_from outcomes' -l fair -d 'Check that every fair schedule terminates, in place of the list; if not, print an order and a cycle that never does'
+complete -c txc -n '__fish_seen_subcommand_from outcomes' -l blocked -d 'List the states in which threads block for good, in place of the list of outcomes, each with an order that leads to it'
 complete -c txc -n '__fish_seen_subcommand_from outcomes' -l help -d 'Print help'
 complete -c txc -n __fish_use_subcommand -a certify -d 'Check that a report is what the source prints in a given order of transactions, byte for byte'
 complete -c txc -n '__fish_seen_subcommand_from certify' -F

@@ -9,7 +9,7 @@ use Rattle.command.specs.declared.request.Asked.{Asked}
 use Rattle.command.specs.declared.request.Job.{Job}
 use Rattle.command.specs.declared.request.Job.TheVariants.{Serve, Test}
 use Rattle.command.specs.declared.request.Request.{Request}
-use Rattle.command.specs.declared.request.Request.TheVariants.{Program, Certify, Compare, Ask, Cover, Fair, Explain, ExplainEnd}
+use Rattle.command.specs.declared.request.Request.TheVariants.{Program, Certify, Compare, Ask, Cover, Fair, Blocked, Explain, ExplainEnd}
 use Rattle.command.specs.declared.request.Task.TheVariants.{Check, Listing, Run, Replay, Timeline, Picture, PrintOrder, PrintSchedule, Source, Trace}
 use Rattle.command.specs.declared.request.Task.TheVariants.{Explore, Outcomes}
 use Rattle.command.specs.declared.request.Tests.{Tests}
@@ -50,6 +50,7 @@ no_request given (Compare file verbose format comparison) is = let e : 116 ≡ 1
 no_request given (Ask file verbose format questions) is = let e : 116 ≡ 111 = ap (λ l. slice_index l 0) is.3 in absurd (omega (arith, e))
 no_request given (Cover file verbose format coverage) is = let e : 116 ≡ 111 = ap (λ l. slice_index l 0) is.3 in absurd (omega (arith, e))
 no_request given (Fair file verbose format search) is = let e : 116 ≡ 111 = ap (λ l. slice_index l 0) is.3 in absurd (omega (arith, e))
+no_request given (Blocked file verbose format search) is = let e : 116 ≡ 111 = ap (λ l. slice_index l 0) is.3 in absurd (omega (arith, e))
 no_request given (Explain number) is = let e : 116 ≡ 101 = ap (λ l. slice_index l 0) is.0 in absurd (omega (arith, e))
 no_request given (ExplainEnd word number) is = let e : 116 ≡ 101 = ap (λ l. slice_index l 0) is.0 in absurd (omega (arith, e))
 

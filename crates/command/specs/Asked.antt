@@ -10,6 +10,7 @@ use Rattle.clap.specs.declared.error.kind.ErrorKind.{ErrorKind}
 use Rattle.clap.specs.declared.error.kind.ErrorKind.TheVariants.{DisplayHelp, DisplayVersion}
 use Rattle.command.specs.declared.request.Against.{Against}
 use Rattle.command.specs.declared.request.Against.TheVariants.{Refined, Expected, Admitted}
+use Rattle.command.specs.declared.request.BlockedSearch.{BlockedSearch}
 use Rattle.command.specs.declared.request.Claim.{Claim}
 use Rattle.command.specs.declared.request.Comparison.{Comparison}
 use Rattle.command.specs.declared.request.Coverage.{Coverage}
@@ -18,7 +19,7 @@ use Rattle.command.specs.declared.request.Format.{Format}
 use Rattle.command.specs.declared.request.Format.TheVariants.{Plain, Short, Json, Github}
 use Rattle.command.specs.declared.request.Request.{Request}
 use Rattle.command.specs.declared.request.Request.TheVariants.{Program, Certify, Compare, Ask, Cover}
-use Rattle.command.specs.declared.request.Request.TheVariants.{Fair, Explain, ExplainEnd}
+use Rattle.command.specs.declared.request.Request.TheVariants.{Fair, Blocked, Explain, ExplainEnd}
 use Rattle.command.specs.declared.request.Questions.{Questions}
 use Rattle.command.specs.declared.request.Task.{Task}
 use Rattle.command.specs.declared.request.Task.TheVariants.{Check, Listing, Run, Replay, Timeline, Picture}
@@ -223,7 +224,7 @@ IsTask name given (Outcomes threads steps limit memory time traces) = (name ≡ 
     × IsNumberInRange given (codes "limit") 1000000 0 4294967295 limit
     × IsNumberInRange given (codes "memory") 1024 0 4294967295 memory × IsNumberRead (one_of (codes "time") given) time
     × AreUncompared given × (are_asked given ≡ false) × (IsTrue traces ↔ IsFlagged given (codes "trace"))
-    × IsUnflagged given (codes "fair")
+    × IsUnflagged given (codes "fair") × IsUnflagged given (codes "blocked")
 
 -- the properties to check: functions that must hold in every state, and those that must hold in every outcome
 pub record AreQuestions (given : List Row) (questions : Questions) : Type 0 where
@@ -237,6 +238,7 @@ pub record AreQuestions (given : List Row) (questions : Questions) : Type 0 wher
   pub keeps_going : IsTrue questions.keeps_going ↔ IsFlagged given (codes "keep-going")
   pub traces : IsTrue questions.traces ↔ IsFlagged given (codes "trace")
   pub unfair : IsUnflagged given (codes "fair")
+  pub unblocked : IsUnflagged given (codes "blocked")
 
 -- `any` is given instead of a number of threads
 pub record IsAnyNumber (given : List Row) : Type 0 where
@@ -247,6 +249,7 @@ pub record IsAnyNumber (given : List Row) : Type 0 where
 pub record IsCoverageAsked (given : List Row) (coverage : Coverage) : Type 0 where
   pub any : IsAnyNumber given
   pub unfair : IsUnflagged given (codes "fair")
+  pub unblocked : IsUnflagged given (codes "blocked")
   pub uncompared : AreUncompared given
   pub none_last : first_of (codes "final") given ≡ None
   pub none_timed : first_of (codes "time") given ≡ None
@@ -258,6 +261,20 @@ pub record IsCoverageAsked (given : List Row) (coverage : Coverage) : Type 0 whe
 -- the search for a fair schedule that never terminates
 pub record IsFairSearch (given : List Row) (search : FairSearch) : Type 0 where
   pub fair : IsFlagged given (codes "fair")
+  pub unblocked : IsUnflagged given (codes "blocked")
+  pub uncompared : AreUncompared given
+  pub unasked : are_asked given ≡ false
+  pub threads : IsNumberInRange given (codes "threads") 2 1 64 search.threads
+  pub steps : IsNumberInRange given (codes "steps") 1000000 0 4294967295 search.steps
+  pub limit : IsNumberInRange given (codes "limit") 1000000 0 4294967295 search.limit
+  pub memory : IsNumberInRange given (codes "memory") 1024 0 4294967295 search.memory
+  pub time : IsNumberRead (one_of (codes "time") given) search.time
+  pub traces : IsTrue search.traces ↔ IsFlagged given (codes "trace")
+
+-- the search for the states in which the threads are blocked
+pub record IsBlockedSearch (given : List Row) (search : BlockedSearch) : Type 0 where
+  pub blocked : IsFlagged given (codes "blocked")
+  pub unfair : IsUnflagged given (codes "fair")
   pub uncompared : AreUncompared given
   pub unasked : are_asked given ≡ false
   pub threads : IsNumberInRange given (codes "threads") 2 1 64 search.threads
@@ -333,6 +350,7 @@ IsRequest name given (Compare file verbose format comparison) =
     (first_of (codes "FILE") given ≡ Some (string_bytes file))
     × (IsTrue verbose ↔ IsFlagged given (codes "verbose")) × IsFormat (first_of (codes "format") given) format
     × (name ≡ codes "outcomes") × (are_asked given ≡ false) × IsUnflagged given (codes "fair")
+    × IsUnflagged given (codes "blocked")
     × IsComparison given comparison
 IsRequest name given (Ask file verbose format questions) =
     (first_of (codes "FILE") given ≡ Some (string_bytes file))
@@ -346,6 +364,10 @@ IsRequest name given (Fair file verbose format search) =
     (first_of (codes "FILE") given ≡ Some (string_bytes file))
     × (IsTrue verbose ↔ IsFlagged given (codes "verbose")) × IsFormat (first_of (codes "format") given) format
     × (name ≡ codes "outcomes") × IsFairSearch given search
+IsRequest name given (Blocked file verbose format search) =
+    (first_of (codes "FILE") given ≡ Some (string_bytes file))
+    × (IsTrue verbose ↔ IsFlagged given (codes "verbose")) × IsFormat (first_of (codes "format") given) format
+    × (name ≡ codes "outcomes") × IsBlockedSearch given search
 IsRequest name given (Explain number) =
     (name ≡ codes "explain") × IsGiven given (codes "NN") number × (one_of (codes "N") given ≡ None)
 IsRequest name given (ExplainEnd word number) = (name ≡ codes "explain")

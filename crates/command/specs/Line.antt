@@ -98,7 +98,7 @@ outcomes_app =
     let always = with_rule outcome_states_app (text_rule (codes "always")) in
     let last = with_rule always (text_rule (codes "final")) in
     let traces = with_rule (with_rule last (flag_rule (codes "keep-going"))) (flag_rule (codes "trace")) in
-    with_rule traces (flag_rule (codes "fair"))
+    with_rule (with_rule traces (flag_rule (codes "fair"))) (flag_rule (codes "blocked"))
 
 abbrev pub certify_app : App
 certify_app =

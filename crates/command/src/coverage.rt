@@ -39,6 +39,7 @@ pub(crate) fn covers(name: &str, given: &ArgMatches<'_>) -> bool
 /// The functions that must hold for every number of threads, and the limits of the search.
 pub(crate) fn coverage(alloc: Global, given: &ArgMatches<'_>) -> Result<Coverage, UsageFault>
     requires unfair { IsUnflagged (rows_of (found_of given.now)) (codes "fair") }
+    requires unblocked { IsUnflagged (rows_of (found_of given.now)) (codes "blocked") }
     requires any { IsAnyNumber (rows_of (found_of given.now)) }
     ensures ok { IfOk result (IsCoverageAsked (rows_of (found_of given.now))) }
     ensures err { IfErr result (IsOwn ((c : Coverage) → IsCoverageAsked (rows_of (found_of given.now)) c → ⊥)) }

@@ -26,7 +26,8 @@ pub(crate) fn is_fair(name: &str, given: &ArgMatches<'_>) -> bool
 
 /// The search for a fair schedule that never terminates.
 pub(crate) fn fair_search(alloc: Global, given: &ArgMatches<'_>) -> Result<FairSearch, UsageFault>
-    requires { IsFlagged (rows_of (found_of given.now)) (codes "fair") }
+    requires fair { IsFlagged (rows_of (found_of given.now)) (codes "fair") }
+    requires unblocked { IsUnflagged (rows_of (found_of given.now)) (codes "blocked") }
     ensures ok { IfOk result (IsFairSearch (rows_of (found_of given.now))) }
     ensures err { IfErr result (IsOwn ((s : FairSearch) → IsFairSearch (rows_of (found_of given.now)) s → ⊥)) }
 {

@@ -1,6 +1,7 @@
 //! The words of a command line, and what they ask.
 #![tactic(auto)]
 
+mod blocked;
 mod claim;
 mod comparison;
 mod coverage;
@@ -20,6 +21,6 @@ mod tests;
 pub use listed::listed_order;
 pub use read::{command, job};
 pub use request::{
-    Against, Asked, CheckOptions, Claim, Comparison, Coverage, FairSearch, Format, Job, Questions,
-    Request, Steps, Task, TestFormat, Tests, ThreadRange, UsageFault,
+    Against, Asked, BlockedSearch, CheckOptions, Claim, Comparison, Coverage, FairSearch, Format,
+    Job, Questions, Request, Steps, Task, TestFormat, Tests, ThreadRange, UsageFault,
 };

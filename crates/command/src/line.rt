@@ -506,7 +506,13 @@ fn outcomes<'a>(alloc: Global) -> Result<Command<'a>, AllocError>
         "fair",
         "Check that every fair schedule terminates, in place of the list; if not, print an order and a cycle that never does",
     );
-    with(command, fair)
+    let command = with(command, fair);
+    let blocked = flag(
+        alloc,
+        "blocked",
+        "List the states in which threads block for good, in place of the list of outcomes, each with an order that leads to it",
+    );
+    with(command, blocked)
 }
 
 /// The command that certifies a report.

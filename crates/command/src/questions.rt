@@ -42,6 +42,7 @@ pub(crate) fn asks(name: &str, given: &ArgMatches<'_>) -> bool
 /// What is asked.
 pub(crate) fn questions(alloc: Global, given: &ArgMatches<'_>) -> Result<Questions, UsageFault>
     requires unfair { IsUnflagged (rows_of (found_of given.now)) (codes "fair") }
+    requires unblocked { IsUnflagged (rows_of (found_of given.now)) (codes "blocked") }
     ensures ok { IfOk result (AreQuestions (rows_of (found_of given.now))) }
     ensures err { IfErr result (IsOwn ((q : Questions) → AreQuestions (rows_of (found_of given.now)) q → ⊥)) }
 {

@@ -9,6 +9,7 @@ ghost use Rattle.command.specs.Tests.{IsJob, RefusesJob, WantJob};
 ghost use Rattle.command.specs.declared.request.Job.{Job};
 ghost use Rattle.command.specs.inner.Refusals.{AreNoRequest, AskNoMore, IsOwn, HasGiven, HasJob, SaysError};
 
+use crate::blocked::{blocked_search, is_blocked};
 use crate::claim::claim;
 use crate::comparison::{compares, comparison, has_text};
 use crate::coverage::{coverage, covers};
@@ -203,6 +204,14 @@ fn request_of(alloc: Global, name: &str, given: &ArgMatches<'_>) -> Result<Reque
             verbose,
             format,
             claim: claim(alloc, given)?,
+        });
+    }
+    if is_blocked(name, given) {
+        return Ok(Request::Blocked {
+            file,
+            verbose,
+            format,
+            search: blocked_search(alloc, given)?,
         });
     }
     if is_fair(name, given) {

@@ -94,6 +94,14 @@ pub enum Request {
         format: Format,
         search: FairSearch,
     },
+    /// Lists the states in which the threads of the program in a file are blocked.
+    Blocked {
+        file: String,
+        /// Whether more of a fault is reported than its line.
+        verbose: bool,
+        format: Format,
+        search: BlockedSearch,
+    },
     /// Explains the fault of a number.
     Explain {
         number: u32,
@@ -195,6 +203,21 @@ pub struct FairSearch {
     /// How many seconds the search takes at most.
     pub time: Option<u32>,
     /// Whether the trace of a schedule that never terminates is reported.
+    pub traces: bool,
+}
+
+/// The search for the states in which 1 to 64 threads are blocked, over at most so many states. In a turn a thread makes
+/// at most so many steps of its code.
+#[derive(Debug, Drop)]
+pub struct BlockedSearch {
+    pub threads: u32,
+    pub steps: u32,
+    pub limit: u32,
+    /// How many MB states and list take at most.
+    pub memory: u32,
+    /// How many seconds the search takes at most.
+    pub time: Option<u32>,
+    /// Whether the trace of the first order is reported.
     pub traces: bool,
 }
 

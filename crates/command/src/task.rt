@@ -245,6 +245,7 @@ fn outcomes(alloc: Global, given: &ArgMatches<'_>) -> Result<Task, UsageFault>
     requires alone { AreUncompared (rows_of (found_of given.now)) }
     requires unasked { are_asked (rows_of (found_of given.now)) ≡ false }
     requires unfair { IsUnflagged (rows_of (found_of given.now)) (codes "fair") }
+    requires unblocked { IsUnflagged (rows_of (found_of given.now)) (codes "blocked") }
     ensures ok { IfOk result (IsTask (codes "outcomes") (rows_of (found_of given.now))) }
     ensures err { IfErr result (IsOwn (AreNoTask (codes "outcomes") (rows_of (found_of given.now)))) }
 {
@@ -263,6 +264,8 @@ pub(crate) fn task(alloc: Global, name: &str, given: &ArgMatches<'_>) -> Result<
     requires alone { name.now ≡ codes "outcomes" → AreUncompared (rows_of (found_of given.now)) }
     requires unasked { name.now ≡ codes "outcomes" → are_asked (rows_of (found_of given.now)) ≡ false }
     requires unfair { name.now ≡ codes "outcomes" → IsUnflagged (rows_of (found_of given.now)) (codes "fair") }
+    requires unblocked { name.now ≡ codes "outcomes" →
+        IsUnflagged (rows_of (found_of given.now)) (codes "blocked") }
     ensures ok { IfOk result (IsTask name.now (rows_of (found_of given.now))) }
     ensures err { IfErr result (IsOwn (AreNoTask name.now (rows_of (found_of given.now)))) }
 {

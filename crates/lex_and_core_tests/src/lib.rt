@@ -6,6 +6,8 @@
 #[cfg(test)]
 mod asserted;
 #[cfg(test)]
+mod blocked;
+#[cfg(test)]
 mod boxes_and_lists;
 #[cfg(test)]
 mod cores;

@@ -1,5 +1,5 @@
 -- One step of a loop that adds orders to a list.
-use Rattle.std.proofs.Common.{◌≡◌, ◌∙◌, ℕ, suc, ◌+◌, ◌<◌, ◌≤◌, List, [], ◌∷◌, ◌++◌, map, length, drop, get_or, ap, sym, append_assoc, append-nil, add-one, drop-cons, arith}
+use Rattle.std.proofs.Common.{◌≡◌, ◌∙◌, ℕ, suc, ◌+◌, ◌<◌, ◌≤◌, List, [], ◌∷◌, ◌++◌, map, length, drop, get_or, ap, sym, append_assoc, append-nil, add-one, drop-cons, arith, refl}
 use Rattle.std.proofs.lemmas.List.{length-map}
 use Rattle.std.proofs.lemmas.Grind.{common_steps}
 use Rattle.std.specs.Prelude.{flat_map}
@@ -50,3 +50,10 @@ three_listed before a b c one two three none first second third = rw (third, sec
 
 pub five_listed : (before a b c d e one two three four five : List ℕ) → before ≡ [] → one ≡ before ++ a → two ≡ one ++ b → three ≡ two ++ c → four ≡ three ++ d → five ≡ four ++ e → five ≡ a ++ b ++ c ++ d ++ e
 five_listed before a b c d e one two three four five none first second third fourth fifth = rw (fifth, fourth, third, second, first, none) (simp append_assoc)
+
+pub five_joined : (before a b c d e one two three four five : List ℕ) → one ≡ before ++ a → two ≡ one ++ b → three ≡ two ++ c → four ≡ three ++ d → five ≡ four ++ e → five ≡ before ++ (a ++ b ++ c ++ d ++ e)
+five_joined before a b c d e one two three four five first second third fourth fifth = rw (fifth, fourth, third, second, first) (simp append_assoc)
+
+-- what is listed, and behind it a line with how many there are
+pub counted_list : {X Y : Type 0} (view : X → Y) (text : Y → List ℕ) (line : ℕ → List ℕ) (xs : List X) (before one two : List ℕ) → before ≡ [] → one ≡ before ++ flat_map text (map view xs) → two ≡ one ++ line (length xs) → two ≡ flat_map text (map view xs) ++ line (length (map view xs))
+counted_list view text line xs before one two none first second = rw (second, first, none, length-map xs view) refl

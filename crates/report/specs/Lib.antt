@@ -20,6 +20,10 @@ pub mod Coverings
 pub mod CoveringViews
 -- the text of the findings about fair schedules
 pub mod Fair
+-- the text of a list of blocked orders
+pub mod Blocked
+-- the Rust type of a blocked order as a plain one
+pub mod BlockedViews
 -- the orders of a set
 pub mod Listed
 -- definitions for private functions alone

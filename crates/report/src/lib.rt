@@ -1,7 +1,9 @@
 //! Reports: the results of a run, a replay or a run of the source, as text; lists of outcomes and of stuck orders, each
-//! with a report; the findings about properties and about fair schedules; and the line of each step of a replay.
+//! with a report; lists of blocked orders; the findings about properties and about fair schedules; and the line of each
+//! step of a replay.
 #![tactic(auto)]
 
+mod blocked;
 mod copied;
 mod coverings;
 mod each_once;
@@ -16,6 +18,7 @@ mod report_set;
 mod same;
 mod timeline;
 
+pub use blocked::{BlockedOrder, blocked_text};
 pub use coverings::{CoveredFinding, CoveredProperty, coverings_text};
 pub use fair::{endless_text, open_text};
 pub use outcome_list::{ReportedOrder, WalkEnd, list_text};

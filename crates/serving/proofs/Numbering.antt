@@ -9,7 +9,7 @@ use Rattle.std.proofs.lemmas.List.{take_all, take_more}
 use Rattle.std.proofs.lemmas.List.Elements.{Contains-push_cases}
 use Rattle.command.specs.declared.request.Request.{Request}
 use Rattle.command.specs.declared.request.Request.TheVariants.{Program, Certify, Compare, Ask, Cover}
-use Rattle.command.specs.declared.request.Request.TheVariants.{Fair, Explain, ExplainEnd}
+use Rattle.command.specs.declared.request.Request.TheVariants.{Fair, Blocked, Explain, ExplainEnd}
 use Rattle.serving.specs.Answers.{most_status}
 use Rattle.serving.specs.Files.{AnswersFiles, Contents, RefusesSource, WritesForFiles}
 use Rattle.serving.specs.Numbers.{AnswersAsked, AreWithNumbers, IsWithNumbers, IsSource, IsUsedInSource, ServesAsked, read_of, sources_of}
@@ -125,6 +125,7 @@ few_statuses (Compare file verbose format comparison) = omega arith
 few_statuses (Ask file verbose format questions) = omega arith
 few_statuses (Cover file verbose format coverage) = omega arith
 few_statuses (Fair file verbose format search) = omega arith
+few_statuses (Blocked file verbose format search) = omega arith
 few_statuses (Explain number) = omega arith
 few_statuses (ExplainEnd word number) = omega arith
 

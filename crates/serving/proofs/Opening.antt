@@ -1,6 +1,7 @@
 -- Answers over files: for a text that was read, a file that was not read, and a file that was opened.
 use Rattle.std.proofs.Common.{◌≡◌, ◌≢◌, ◌∙◌, ◌⊎◌, inl, inr, ◌-◌, ◌≤◌, ℕ, List, Option, Some, None, subst, arith}
 use Rattle.std.specs.Prelude.{IfSome}
+use Rattle.command.specs.declared.request.BlockedSearch.{BlockedSearch}
 use Rattle.command.specs.declared.request.Claim.{Claim}
 use Rattle.command.specs.declared.request.Comparison.{Comparison}
 use Rattle.command.specs.declared.request.Coverage.{Coverage}
@@ -8,6 +9,7 @@ use Rattle.command.specs.declared.request.FairSearch.{FairSearch}
 use Rattle.command.specs.declared.request.Questions.{Questions}
 use Rattle.command.specs.declared.request.Task.{Task}
 use Rattle.serving.specs.Answers.{Answers}
+use Rattle.serving.specs.Blocked.{AnswersBlocked, IsBlockedTextOf}
 use Rattle.serving.specs.Certified.{CertifiesReport, WritesVerdict}
 use Rattle.serving.specs.Compared.{ComparesOutcomes, HaveNoCode, WritesComparison}
 use Rattle.serving.specs.Coverings.{AnswersCoverage, AreCoveredOfText, IsCoverageOf}
@@ -17,8 +19,9 @@ use Rattle.serving.specs.Properties.{AnswersQuestions, AreFoundOfText, IsToldOf,
 use Rattle.serving.specs.Refusals.{IsRefused}
 use Rattle.serving.specs.Refused.{IsRefusedFor}
 use Rattle.serving.specs.Written.{IsAskedFor, WritesPart}
-use Rattle.serving.specs.inner.Serves.{ServesClaim, ServesComparison, ServesCoverage, ServesFair, ServesFile, ServesQuestions, ServesTask}
+use Rattle.serving.specs.inner.Serves.{ServesBlocked, ServesClaim, ServesComparison, ServesCoverage, ServesFair, ServesFile, ServesQuestions, ServesTask}
 use Rattle.serving.proofs.Answering.{tells_nothing}
+use Rattle.serving.proofs.BlockedOrders.{none_listed}
 use Rattle.serving.proofs.Certifying.{no_claim_verdict, nothing_claimed}
 use Rattle.serving.proofs.Comparing.{lacks_code, nothing_compared, nothing_compared_written}
 use Rattle.serving.proofs.CoveringTold.{says_nothing}
@@ -184,3 +187,17 @@ module _ (search : FairSearch) where
 
   pub fair_opened : (known file : Option (List ℕ)) (status : ℕ) (old new : Option (List ℕ)) → known ≡ file → ServesFair search known status old new → ServesFair search file status old new
   fair_opened known file status old new same s = subst (λ k. ServesFair search k status old new) same s
+
+-- ---- where threads block
+
+module _ (search : BlockedSearch) where
+  pub blocked_read : (bytes : Option (List ℕ)) (found text : List ℕ) (status : ℕ) (old new : Option (List ℕ)) → IfSome bytes (λ b. found ≡ b) → text ≡ found → ServesBlocked search (Some text) status old new → ServesBlocked search bytes status old new
+  blocked_read = read 5 (λ text s o n. AnswersBlocked search text s o n) (λ text. HasNoCode text) (λ text o n. WritesPart (IsBlockedTextOf search text) o n)
+
+  pub blocked_unread : (bytes : Option (List ℕ)) (status : ℕ) (old new : Option (List ℕ)) → (status ≡ 1) × IfSome bytes (λ b. IsRefused b) ⊎ (status ≡ 2) ⊎ (status ≡ 4) → new ≡ old → ServesBlocked search bytes status old new
+  blocked_unread =
+      unread 5 (λ text s o n. AnswersBlocked search text s o n) (λ text. HasNoCode text) (λ text o n. WritesPart (IsBlockedTextOf search text) o n)
+      (λ text s o n zero three five. none_listed search text s o n zero three five) refused_text (λ text o n same. inl same) (omega arith)
+
+  pub blocked_opened : (known file : Option (List ℕ)) (status : ℕ) (old new : Option (List ℕ)) → known ≡ file → ServesBlocked search known status old new → ServesBlocked search file status old new
+  blocked_opened known file status old new same s = subst (λ k. ServesBlocked search k status old new) same s

@@ -2,10 +2,11 @@
 use Rattle.std.specs.Prelude.{ℕ, List, Option, IfSome}
 use Rattle.command.specs.declared.request.Request.{Request}
 use Rattle.command.specs.declared.request.Request.TheVariants.{Program, Certify, Compare, Ask, Cover}
-use Rattle.command.specs.declared.request.Request.TheVariants.{Fair, Explain, ExplainEnd}
+use Rattle.command.specs.declared.request.Request.TheVariants.{Fair, Blocked, Explain, ExplainEnd}
 use Rattle.command.specs.declared.request.Task.{Task}
 use Rattle.command.specs.declared.request.Task.TheVariants.{Check, Listing, Run, Replay, Timeline, Picture}
 use Rattle.command.specs.declared.request.Task.TheVariants.{PrintOrder, PrintSchedule, Source, Trace, Explore, Outcomes}
+use Rattle.serving.specs.Blocked.{AnswersBlocked, IsBlockedTextOf}
 use Rattle.serving.specs.Certified.{CertifiesReport, WritesVerdict}
 use Rattle.serving.specs.Checks.{Accepts, SaysAccepted}
 use Rattle.serving.specs.Compared.{ComparesOutcomes, WritesComparison}
@@ -70,6 +71,8 @@ AnswersRequest (Cover file verbose format coverage) schedule report bytes status
     AnswersCoverage coverage bytes status old new
 AnswersRequest (Fair file verbose format search) schedule report bytes status old new =
     AnswersFair search bytes status old new
+AnswersRequest (Blocked file verbose format search) schedule report bytes status old new =
+    AnswersBlocked search bytes status old new
 AnswersRequest (Explain number) schedule report bytes status old new = Unit {0}
 AnswersRequest (ExplainEnd word number) schedule report bytes status old new = Unit {0}
 
@@ -88,6 +91,8 @@ WritesFor (Cover file verbose format coverage) schedule report bytes old new =
     IfSome bytes (λ text. WritesPart (IsCoverageOf coverage text) old new)
 WritesFor (Fair file verbose format search) schedule report bytes old new =
     IfSome bytes (λ text. WritesPart (IsFairTextOf search text) old new)
+WritesFor (Blocked file verbose format search) schedule report bytes old new =
+    IfSome bytes (λ text. WritesPart (IsBlockedTextOf search text) old new)
 WritesFor (Explain number) schedule report bytes old new = Unit {0}
 WritesFor (ExplainEnd word number) schedule report bytes old new = Unit {0}
 
@@ -99,5 +104,6 @@ most_status (Compare file verbose format comparison) = 5
 most_status (Ask file verbose format questions) = 5
 most_status (Cover file verbose format coverage) = 5
 most_status (Fair file verbose format search) = 5
+most_status (Blocked file verbose format search) = 5
 most_status (Explain number) = 4
 most_status (ExplainEnd word number) = 4

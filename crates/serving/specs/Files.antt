@@ -2,11 +2,12 @@
 use Rattle.std.specs.Prelude.{ℕ, List, [], Option, Some, None, IfSome, string_bytes}
 use Rattle.command.specs.declared.request.Request.{Request}
 use Rattle.command.specs.declared.request.Request.TheVariants.{Program, Certify, Compare, Ask, Cover}
-use Rattle.command.specs.declared.request.Request.TheVariants.{Fair, Explain, ExplainEnd}
+use Rattle.command.specs.declared.request.Request.TheVariants.{Fair, Blocked, Explain, ExplainEnd}
 use Rattle.command.specs.declared.request.Steps.TheVariants.{Schedule}
 use Rattle.command.specs.declared.request.Task.{Task}
 use Rattle.command.specs.declared.request.Task.TheVariants.{Picture, Replay, Timeline}
 use Rattle.serving.specs.Answers.{Answers}
+use Rattle.serving.specs.Blocked.{AnswersBlocked, IsBlockedTextOf}
 use Rattle.serving.specs.Certified.{CertifiesReport, WritesVerdict}
 use Rattle.serving.specs.Compared.{ComparesOutcomes, HaveNoCode, WritesComparison, name_of}
 use Rattle.serving.specs.Coverings.{AnswersCoverage, IsCoverageOf}
@@ -48,6 +49,8 @@ AnswersFiles (Cover file verbose format coverage) contents status old new = IfSo
     (λ bytes. AnswersCoverage coverage bytes status old new)
 AnswersFiles (Fair file verbose format search) contents status old new = IfSome (contents (string_bytes file))
     (λ bytes. AnswersFair search bytes status old new)
+AnswersFiles (Blocked file verbose format search) contents status old new = IfSome (contents (string_bytes file))
+    (λ bytes. AnswersBlocked search bytes status old new)
 AnswersFiles (Explain number) contents status old new = Unit {0}
 AnswersFiles (ExplainEnd word number) contents status old new = Unit {0}
 
@@ -66,6 +69,8 @@ WritesForFiles (Cover file verbose format coverage) contents old new = IfSome (c
     (λ bytes. WritesPart (IsCoverageOf coverage bytes) old new)
 WritesForFiles (Fair file verbose format search) contents old new = IfSome (contents (string_bytes file))
     (λ bytes. WritesPart (IsFairTextOf search bytes) old new)
+WritesForFiles (Blocked file verbose format search) contents old new = IfSome (contents (string_bytes file))
+    (λ bytes. WritesPart (IsBlockedTextOf search bytes) old new)
 WritesForFiles (Explain number) contents old new = Unit {0}
 WritesForFiles (ExplainEnd word number) contents old new = Unit {0}
 
@@ -82,6 +87,8 @@ RefusesSource (Ask file verbose format questions) contents =
 RefusesSource (Cover file verbose format coverage) contents =
     IfSome (contents (string_bytes file)) (λ bytes. HasNoCode bytes)
 RefusesSource (Fair file verbose format search) contents =
+    IfSome (contents (string_bytes file)) (λ bytes. HasNoCode bytes)
+RefusesSource (Blocked file verbose format search) contents =
     IfSome (contents (string_bytes file)) (λ bytes. HasNoCode bytes)
 RefusesSource (Explain number) contents = ⊥
 RefusesSource (ExplainEnd word number) contents = ⊥

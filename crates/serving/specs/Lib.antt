@@ -62,6 +62,10 @@ pub mod Properties
 pub mod Coverings
 -- fair schedules of a source's threads
 pub mod Fair
+-- orders in which threads are exchanged
+pub mod Exchanged
+-- orders after which a source's threads are blocked
+pub mod Blocked
 -- the response to a request
 pub mod Answers
 -- the files that a request names

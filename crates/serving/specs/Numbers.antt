@@ -6,7 +6,7 @@ use Rattle.command.specs.declared.request.Against.TheVariants.{Refined, Expected
 use Rattle.command.specs.declared.request.Asked.{Asked}
 use Rattle.command.specs.declared.request.Request.{Request}
 use Rattle.command.specs.declared.request.Request.TheVariants.{Program, Certify, Compare, Ask, Cover}
-use Rattle.command.specs.declared.request.Request.TheVariants.{Fair, Explain, ExplainEnd}
+use Rattle.command.specs.declared.request.Request.TheVariants.{Fair, Blocked, Explain, ExplainEnd}
 use Rattle.lex.specs.declared.lexer.TheConstants.{MOST_BYTES}
 use Rattle.parameters.specs.declared.definition.Definition.{Definition}
 use Rattle.parameters.specs.Puts.{IsPutIn, IsUsedIn}
@@ -26,6 +26,7 @@ sources_of (Compare file verbose format c) = Some (string_bytes file, other_of (
 sources_of (Ask file verbose format questions) = Some (string_bytes file, string_bytes file)
 sources_of (Cover file verbose format coverage) = Some (string_bytes file, string_bytes file)
 sources_of (Fair file verbose format search) = Some (string_bytes file, string_bytes file)
+sources_of (Blocked file verbose format search) = Some (string_bytes file, string_bytes file)
 sources_of (Explain number) = None
 sources_of (ExplainEnd word number) = None
 

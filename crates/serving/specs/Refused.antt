@@ -2,7 +2,7 @@
 use Rattle.std.specs.Prelude.{ℕ, List, Option, IfSome}
 use Rattle.command.specs.declared.request.Request.{Request}
 use Rattle.command.specs.declared.request.Request.TheVariants.{Program, Certify, Compare, Ask, Cover}
-use Rattle.command.specs.declared.request.Request.TheVariants.{Fair, Explain, ExplainEnd}
+use Rattle.command.specs.declared.request.Request.TheVariants.{Fair, Blocked, Explain, ExplainEnd}
 use Rattle.command.specs.declared.request.Task.{Task}
 use Rattle.command.specs.declared.request.Task.TheVariants.{Check, Listing, Run, Replay, Timeline, Picture}
 use Rattle.command.specs.declared.request.Task.TheVariants.{PrintOrder, PrintSchedule, Source, Trace, Explore, Outcomes}
@@ -34,5 +34,6 @@ IsRequestRefused (Compare file verbose format comparison) other bytes =
 IsRequestRefused (Ask file verbose format questions) other bytes = IfSome bytes (λ text. HasNoCode text)
 IsRequestRefused (Cover file verbose format coverage) other bytes = IfSome bytes (λ text. HasNoCode text)
 IsRequestRefused (Fair file verbose format search) other bytes = IfSome bytes (λ text. HasNoCode text)
+IsRequestRefused (Blocked file verbose format search) other bytes = IfSome bytes (λ text. HasNoCode text)
 IsRequestRefused (Explain number) other bytes = ⊥
 IsRequestRefused (ExplainEnd word number) other bytes = ⊥

@@ -28,5 +28,7 @@ pub mod Properties
 pub mod Numbers
 -- findings about fair schedules
 pub mod Fair
+-- findings about the states in which threads are blocked
+pub mod Blocked
 -- the values of properties in memories that nodes represent
 pub mod Coverings

@@ -11,6 +11,7 @@ ghost use Rattle.serving.specs.Replays.{AreLinesOf, AreTurnsOf, IsSchedule, line
 ghost use Rattle.serving.specs.inner.Serves.{ServesTask};
 
 use crate::ask::open_asked;
+use crate::blocked::open_blocked;
 use crate::certify::open_claim;
 use crate::compared::open_comparison;
 use crate::cover::open_covered;
@@ -147,6 +148,17 @@ pub fn serve_files<
             let mut timed = Timed::new(err, rt, search.time);
             let mut teller = Teller::new(&mut timed, detail);
             open_fair(alloc, file.as_str(), search, files, out, &mut teller)
+        }
+        Request::Blocked {
+            file,
+            verbose,
+            format,
+            search,
+        } => {
+            let detail = Detail::of(file.as_str(), *verbose, *format, err.is_terminal());
+            let mut timed = Timed::new(err, rt, search.time);
+            let mut teller = Teller::new(&mut timed, detail);
+            open_blocked(alloc, file.as_str(), search, files, out, &mut teller)
         }
         Request::Explain { number } => explain(*number, out, err),
         Request::ExplainEnd { word, number } => explain_end(word.as_str(), *number, out, err),

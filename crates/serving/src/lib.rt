@@ -8,6 +8,7 @@ mod answered;
 mod ask;
 mod askable;
 mod at_rest;
+mod blocked;
 mod by_code;
 mod certify;
 mod check;

@@ -71,6 +71,12 @@ fn sources_of(request: &Request) -> Option<Sources<'_>>
             verbose,
             format,
             ..
+        }
+        | Request::Blocked {
+            file,
+            verbose,
+            format,
+            ..
         } => (file.as_str(), file.as_str(), *verbose, *format),
         Request::Compare {
             file,

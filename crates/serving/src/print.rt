@@ -33,7 +33,7 @@ pub(crate) const TRAPPED: u8 = 3;
 pub(crate) const STOPPED: u8 = 4;
 
 /// The exit status if a claim is refuted: a report is not the one that the source prints, outcomes are not the expected
-/// ones, a property fails, or a fair schedule never terminates.
+/// ones, a property fails, a fair schedule never terminates, or threads block for good.
 pub(crate) const REFUTED: u8 = 5;
 
 /// Whether a thread has neither ended nor trapped.

@@ -6,7 +6,7 @@ ghost use Rattle.report.specs.declared.outcome_list.WalkEnd.TheVariants.{Whole};
 
 use crate::listed_bytes::bytes_of;
 use crate::tell::Detail;
-use report::{ReportSet, WalkEnd};
+use report::{ReportSet, ReportedOrder, WalkEnd};
 use std::alloc::Allocator;
 use std::io::{ErrorKind, Write};
 use walks::{Progress, Walk};
@@ -113,13 +113,24 @@ impl<'e, E: Write> ProgressLine<'e, E> {
         if count != self.listed {
             self.listed = count;
             if let Some(last) = listed.last() {
-                self.listed_bytes = self.listed_bytes.saturating_add(bytes_of(last));
-            }
-            if self.held.saturating_add(self.listed_bytes) > self.most {
-                self.is_full = true;
+                self.hold(last);
             }
         }
         self.show_listed(count);
+        self.watch_time();
+    }
+
+    /// Counts the memory of one more order.
+    fn hold<A: Allocator>(&mut self, one: &ReportedOrder<A>) {
+        self.listed_bytes = self.listed_bytes.saturating_add(bytes_of(one));
+        if self.held.saturating_add(self.listed_bytes) > self.most {
+            self.is_full = true;
+        }
+    }
+
+    /// One more blocked order is listed.
+    pub(crate) fn list_blocked<A: Allocator>(&mut self, one: &ReportedOrder<A>) {
+        self.hold(one);
         self.watch_time();
     }
 

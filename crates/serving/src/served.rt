@@ -5,6 +5,7 @@ ghost use Rattle.serving.specs.Answers.{AnswersRequest, WritesFor, most_status};
 ghost use Rattle.serving.specs.Refused.{IsRequestRefused};
 
 use crate::ask::ask;
+use crate::blocked::serve_blocked;
 use crate::certify::certify;
 use crate::compared::compare;
 use crate::cover::cover;
@@ -27,14 +28,15 @@ use std::thread::Threads;
 /// Output goes to `out`, and faults go to `err`. Text that `err` does not take is lost. The source line or the schedule
 /// line of a fault follows it if `err` is a terminal, or if the words request it. The status is:
 /// - 0 if all threads ended, all outcomes were listed, a comparison or all properties hold, every fair schedule
-///   terminates, the source is accepted, a report is certified, or a fault is explained;
+///   terminates, threads never block for good, the source is accepted, a report is certified, or a fault is explained;
 /// - 1 if a source is refused and nothing is printed;
 /// - 2 if a reader cannot be read, the source or the schedule is not UTF-8, the schedule or an order is refused, a
 ///   function may not be a property, or the words are unusable;
 /// - 3 if a thread trapped, in a run or in some outcome;
 /// - 4 if a thread neither ended nor trapped, there may be more outcomes, a step was not made, an allocation failed, or
 ///   `out` could not be written;
-/// - 5 if a report differs, a comparison shows a difference, a property fails, or a fair schedule never terminates.
+/// - 5 if a report differs, a comparison shows a difference, a property fails, a fair schedule never terminates, or
+///   threads block for good.
 pub fn serve<
     H: Threads + Wait + Sync,
     R: Read + Drop,
@@ -122,6 +124,16 @@ pub fn serve<
             let detail = Detail::of(file.as_str(), *verbose, *format, is_terminal);
             let mut teller = Teller::new(err, detail);
             decide_fair(alloc, search, source, out, &mut teller)
+        }
+        Request::Blocked {
+            file,
+            verbose,
+            format,
+            search,
+        } => {
+            let detail = Detail::of(file.as_str(), *verbose, *format, is_terminal);
+            let mut teller = Teller::new(err, detail);
+            serve_blocked(alloc, search, source, out, &mut teller)
         }
         Request::Explain { number } => explain(*number, out, err),
         Request::ExplainEnd { word, number } => explain_end(word.as_str(), *number, out, err),

@@ -416,6 +416,27 @@ fn second_transcripts() -> &'static [Transcript] {
             b"== always no_seat_twice: states 6, threads: 2\n== not no_seat_twice --order 1,1,2,0,0,2\n== thread 0: ended\n== thread 1: ended\n== thread 2: ended\n== memory\nseats = -1\nsold = 3\ntxc: each property has its answer, so the search stopped; --keep-going continues it\ntxc: with --order 1,1,2,0,0,2\nturn thread at     seats sold\n                       2    0\n   1      1 8:5        2    .   free = seats > 0\n   2      1 10:9      >1   >1   seats = seats - 1; sold = sold + 1  ended\n   3      2 8:5        1    .   free = seats > 0\n   4      0 8:5        1    .   free = seats > 0\n   5      0 10:9      >0   >2   seats = seats - 1; sold = sold + 1  ended\n   6      2 10:9     >-1   >3   seats = seats - 1; sold = sold + 1  ended\nthread 0: ended\nthread 1: ended\nthread 2: ended\nproperty no_seat_twice: fails: seats = -1, sold = 3\n",
         ),
         (
+            "txc outcomes examples/blocked/jobs.c --threads 2 --blocked",
+            b"// A worker that finds no job returns, and never gives the lock back.\nint owner, jobs, done;\n\nvoid take(int self) {\n    int mine = 0;\n    while (!mine) {\n        __transaction_atomic { mine = !owner; if (mine) owner = self + 1; }\n    }\n}\n\nvoid worker(int self) {\n    int found;\n    take(self);\n    __transaction_atomic { found = jobs; if (found) jobs = jobs - 1; }\n    if (found) {\n        __transaction_atomic { done = done + 1; owner = 0; }\n    }\n}\n\n// txc: --threads 2 --blocked (fails)\n",
+            b"",
+            b"",
+            b"== blocked --order 0,0\n== thread 0: ended\n== thread 1: waits\n== memory\nowner = 1\njobs = 0\ndone = 0\n== nothing changes any more\n== blocked --order 1,1\n== thread 0: waits\n== thread 1: ended\n== memory\nowner = 2\njobs = 0\ndone = 0\n== nothing changes any more\n== blocked: 2, states: 5, threads: 2\ntxc: with --order 0,0\nturn thread at     owner jobs\n                       0    0\n   1      0 7:9       >1    .   mine = !owner; if (mine) owner = self + ..\n   2      0 14:5       .    0   found = jobs; if (found) jobs = jobs - 1  ended\nthread 0: ended\nthread 1: next at 7:9: mine = !owner; if (mine) owner = self + ..\n",
+        ),
+        (
+            "txc outcomes examples/locks.c --threads 2 --blocked",
+            b"// Two locks, which the threads take in opposite orders: each can hold one and wait for the other.\nint locked[2], done;\n\nvoid take(int which) {\n    int mine = 0;\n    while (!mine) {\n        __transaction_atomic { mine = !locked[which]; if (mine) locked[which] = 1; }\n    }\n}\n\nvoid worker(int self) {\n    take(self);\n    take(1 - self);\n    __transaction_atomic { done = done + 1; locked[0] = 0; locked[1] = 0; }\n}\n",
+            b"",
+            b"",
+            b"== blocked --order 0,1\n== thread 0: waits\n== thread 1: waits\n== memory\nlocked = 1 1\ndone = 0\n== nothing changes any more\n== blocked: 1, states: 13, threads: 2\ntxc: with --order 0,1\nturn thread at     locked[0] locked[1]\n                           0         0\n   1      0 7:9           >1         .   mine = !locked[which]; if (mine) locked ..\n   2      1 7:9            .        >1   mine = !locked[which]; if (mine) locked ..\nthread 0: next at 7:9: mine = !locked[which]; if (mine) locked ..\nthread 1: next at 7:9: mine = !locked[which]; if (mine) locked ..\n",
+        ),
+        (
+            "txc outcomes examples/ticket.c --threads 2 --blocked",
+            b"// A ticket lock made of transactions: each thread takes a number, waits in a loop until it is served, and enters twice.\n// `most` is the largest number of threads that were inside at one time.\nint next, serving, inside, most, entered;\n\nvoid worker(int self) {\n    int i, mine, mine_now;\n    for (i = 0; i < 2; i++) {\n        __transaction_atomic { mine = next; next = next + 1; }\n        do {\n            __transaction_atomic { mine_now = serving == mine; }\n        } while (!mine_now);\n        __transaction_atomic { inside = inside + 1; if (inside > most) most = inside; }\n        __transaction_atomic { inside = inside - 1; entered = entered + 1; serving = serving + 1; }\n    }\n}\n",
+            b"",
+            b"",
+            b"== blocked: 0, states: 36, threads: 2\n",
+        ),
+        (
             "txc certify examples/hashset.c --threads 2 --order-file examples/orders/hashset.txt --report examples/orders/hashset.out",
             b"// A set of numbers in a table of 16 places, without a lock of its own: each insertion is one step.\nint place[16], count;\n\nint insert(int key) {\n    int at = key * 7 & 15, added = 0;\n    __transaction_atomic {\n        while (place[at] != 0 && place[at] != key) at = at + 1 & 15;\n        if (place[at] == 0) {\n            place[at] = key;\n            count = count + 1;\n            added = 1;\n        }\n    }\n    return added;\n}\n\nvoid worker(int self) {\n    int i, added = 0;\n    for (i = 1; i <= 4; i++) added = added + insert(i * (self + 1));\n    printf(\"%d added\\n\", added);\n}\n",
             b"0,1,0,1,0,1,0,1\n",
@@ -506,6 +527,12 @@ fn second_transcripts() -> &'static [Transcript] {
             b"",
             b"accepted\nexamples/seats.c:6:35: warning: a later transaction relies on this value, which another thread may have changed [stale-read]\n",
         ),
+    ];
+    &ROWS
+}
+
+fn third_transcripts() -> &'static [Transcript] {
+    static ROWS: [Transcript; 18] = [
         (
             "txc outcomes examples/audit.c --threads 2 --expect examples/lists/audit.txt",
             b"// Thread 0 moves 50 in two transactions. Thread 1 adds up both accounts, and can find 50 missing.\nint checking = 120, savings = 40;\n\nvoid worker(int self) {\n    int total;\n    if (self == 0) {\n        __transaction_atomic { checking = checking - 50; }\n        __transaction_atomic { savings = savings + 50; }\n    } else {\n        __transaction_atomic { total = checking + savings; }\n        printf(\"%d\\n\", total);\n    }\n}\n",
@@ -527,12 +554,6 @@ fn second_transcripts() -> &'static [Transcript] {
             b"",
             b"fault 20: unknown name\nWhen: a name that is not declared, or not in scope\nPlace: the name\nExample: void worker(int self) { __transaction_atomic { z = 1; } }\nReported at: 1:48\nFix: declare it first: `int z;`\n",
         ),
-    ];
-    &ROWS
-}
-
-fn third_transcripts() -> &'static [Transcript] {
-    static ROWS: [Transcript; 18] = [
         (
             "txc explain budget",
             b"",
@@ -638,6 +659,12 @@ fn third_transcripts() -> &'static [Transcript] {
             b"",
             b"== outcome --order 0,0,0,1,1,1\n== thread 0: ended\n== thread 1: ended\n== memory\nx = 6\n== outcomes: 1, stuck: 0, states: 10, threads: 2\n",
         ),
+    ];
+    &ROWS
+}
+
+fn fourth_transcripts() -> &'static [Transcript] {
+    static ROWS: [Transcript; 18] = [
         (
             "txc outcomes examples/locks.c --threads 2",
             b"// Two locks, which the threads take in opposite orders: each can hold one and wait for the other.\nint locked[2], done;\n\nvoid take(int which) {\n    int mine = 0;\n    while (!mine) {\n        __transaction_atomic { mine = !locked[which]; if (mine) locked[which] = 1; }\n    }\n}\n\nvoid worker(int self) {\n    take(self);\n    take(1 - self);\n    __transaction_atomic { done = done + 1; locked[0] = 0; locked[1] = 0; }\n}\n",
@@ -659,12 +686,6 @@ fn third_transcripts() -> &'static [Transcript] {
             b"",
             b"== outcome --order 0,0,1\n== thread 0: ended\n== thread 1: ended\n== memory\nseats = 0\nsold = 1\n== outcome --order 1,0,0,1\n== thread 0: ended\n== thread 1: ended\n== memory\nseats = -1\nsold = 2\n== outcomes: 2, stuck: 0, states: 7, threads: 2\n",
         ),
-    ];
-    &ROWS
-}
-
-fn fourth_transcripts() -> &'static [Transcript] {
-    static ROWS: [Transcript; 18] = [
         (
             "txc outcomes examples/seats_checked.c --threads 2",
             b"// As seats.c, with a check: if the seat is sold twice, a division by 0 ends the thread.\nint seats = 1, sold;\n\nvoid worker(int self) {\n    int free;\n    __transaction_atomic { free = seats > 0; }\n    if (free) {\n        __transaction_atomic {\n            seats = seats - 1;\n            sold = sold + 1;\n            free = 1 / (sold <= 1);\n        }\n    }\n}\n",
@@ -770,6 +791,12 @@ fn fourth_transcripts() -> &'static [Transcript] {
             b"",
             b"== events\n3 0 commit\n18 0 commit\n24 0 commit\n39 0 commit\n42 0 commit\n45 0 commit\n45 1 commit\n48 1 commit\n51 1 commit\n54 1 commit\n== thread 0: ended\n2 taken, 0 left\n== thread 1: ended\n0 taken, 0 left\n== memory\nqueue = 7 9\nhead = 2\ntotal = 16\n",
         ),
+    ];
+    &ROWS
+}
+
+fn fifth_transcripts() -> &'static [Transcript] {
+    static ROWS: [Transcript; 18] = [
         (
             "txc replay examples/first.c --seed 1 --steps 17 --timeline",
             b"int x = 40, y; void worker(int self) { __transaction_atomic { x = x + 2; y = x - 1; } }\n",
@@ -791,12 +818,6 @@ fn fourth_transcripts() -> &'static [Transcript] {
             b"",
             b"== events\n14 0 commit\n17 1 abort\n26 1 commit\n== thread 0: ended\nticket 1, 9 left\n== thread 1: ended\nticket 2, 8 left\n== memory\nsold = 2\nleft = 8\n",
         ),
-    ];
-    &ROWS
-}
-
-fn fifth_transcripts() -> &'static [Transcript] {
-    static ROWS: [Transcript; 18] = [
         (
             "txc replay examples/receipt.c --seed 3 --steps 23 --timeline",
             b"// Printing can't be undone, so it needs a relaxed transaction: from the first `printf` on no other thread can change\n// shared data, and the numbers on the receipt belong together.\nint sold, left = 10;\n\nvoid worker(int self) {\n    __transaction_relaxed {\n        sold = sold + 1;\n        left = left - 1;\n        printf(\"ticket %d, %d left\\n\", sold, left);\n    }\n}\n",
@@ -902,6 +923,12 @@ fn fifth_transcripts() -> &'static [Transcript] {
             b"",
             b"== thread 0: ended\n1543209862 dollars, 65 cents\n1033830044 dollars, 70 cents\n791526127 dollars, 98 cents\n== thread 1: ended\n1350308629 dollars, 82 cents\n1181520051 dollars, 9 cents\n904601289 dollars, 12 cents\n== memory\nfund = 554068289587\npaid = 680499600536\npayments = 6\n",
         ),
+    ];
+    &ROWS
+}
+
+fn sixth_transcripts() -> &'static [Transcript] {
+    static ROWS: [Transcript; 12] = [
         (
             "txc source examples/hashset.c --threads 2 --order 0,1,0,1,0,1,0,1",
             b"// A set of numbers in a table of 16 places, without a lock of its own: each insertion is one step.\nint place[16], count;\n\nint insert(int key) {\n    int at = key * 7 & 15, added = 0;\n    __transaction_atomic {\n        while (place[at] != 0 && place[at] != key) at = at + 1 & 15;\n        if (place[at] == 0) {\n            place[at] = key;\n            count = count + 1;\n            added = 1;\n        }\n    }\n    return added;\n}\n\nvoid worker(int self) {\n    int i, added = 0;\n    for (i = 1; i <= 4; i++) added = added + insert(i * (self + 1));\n    printf(\"%d added\\n\", added);\n}\n",
@@ -923,12 +950,6 @@ fn fifth_transcripts() -> &'static [Transcript] {
             b"",
             b"== thread 0: ended\nticket 2, 8 left\n== thread 1: ended\nticket 3, 7 left\n== thread 2: ended\nticket 1, 9 left\n== memory\nsold = 3\nleft = 7\n",
         ),
-    ];
-    &ROWS
-}
-
-fn sixth_transcripts() -> &'static [Transcript] {
-    static ROWS: [Transcript; 9] = [
         (
             "txc source examples/transfer.c --threads 2 --order 0,1,1,0",
             b"// Both accounts change in one step, or neither does.\nint checking = 120, savings = 40;\n\nvoid worker(int self) {\n    __transaction_atomic {\n        checking = checking - 50;\n        savings = savings + 50;\n    }\n    __transaction_atomic {\n        savings = savings + 1;\n    }\n}\n",

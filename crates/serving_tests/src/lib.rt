@@ -8,6 +8,8 @@ mod all_orders;
 #[cfg(test)]
 mod beside;
 #[cfg(test)]
+mod blocked;
+#[cfg(test)]
 mod certified;
 #[cfg(test)]
 mod compared;

@@ -3,7 +3,7 @@ use Rattle.std.proofs.Common.{◌≡◌, ◌⊎◌, ◌∷◌, inl, inr, ℕ, Li
 use Rattle.command.specs.declared.request.Asked.{Asked}
 use Rattle.command.specs.declared.request.Request.{Request}
 use Rattle.command.specs.declared.request.Request.TheVariants.{Program, Certify, Compare, Ask, Cover}
-use Rattle.command.specs.declared.request.Request.TheVariants.{Fair, Explain, ExplainEnd}
+use Rattle.command.specs.declared.request.Request.TheVariants.{Fair, Blocked, Explain, ExplainEnd}
 use Rattle.command.specs.declared.request.Tests.{Tests}
 use Rattle.parameters.specs.declared.definition.Definition.{Definition}
 use Rattle.serving.specs.Files.{AnswersFiles, Contents, WritesForFiles}
@@ -18,6 +18,7 @@ none_answered (Compare file verbose format comparison) status old = tt
 none_answered (Ask file verbose format questions) status old = tt
 none_answered (Cover file verbose format coverage) status old = tt
 none_answered (Fair file verbose format search) status old = tt
+none_answered (Blocked file verbose format search) status old = tt
 none_answered (Explain number) status old = tt
 none_answered (ExplainEnd word number) status old = tt
 
@@ -28,6 +29,7 @@ none_written (Compare file verbose format comparison) old = tt
 none_written (Ask file verbose format questions) old = tt
 none_written (Cover file verbose format coverage) old = tt
 none_written (Fair file verbose format search) old = tt
+none_written (Blocked file verbose format search) old = tt
 none_written (Explain number) old = tt
 none_written (ExplainEnd word number) old = tt
 

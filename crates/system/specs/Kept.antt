@@ -3,7 +3,7 @@ use Rattle.std.specs.Prelude.{◌≡◌, ◌⊎◌, ℕ, true, List, [], ◌∷�
 use Rattle.std.specs.Prelude.{is_some, string_bytes}
 use Rattle.command.specs.declared.request.Request.{Request}
 use Rattle.command.specs.declared.request.Request.TheVariants.{Program, Certify, Compare, Ask, Cover}
-use Rattle.command.specs.declared.request.Request.TheVariants.{Fair, Explain, ExplainEnd}
+use Rattle.command.specs.declared.request.Request.TheVariants.{Fair, Blocked, Explain, ExplainEnd}
 use Rattle.serving.specs.Compared.{name_of}
 use Rattle.serving.specs.Files.{Contents, schedule_of}
 use Rattle.serving.specs.Numbers.{IsSource, read_of}
@@ -46,6 +46,7 @@ AreKnown (Compare file verbose format comparison) contents =
 AreKnown (Ask file verbose format questions) contents = IsFileKnown contents (string_bytes file)
 AreKnown (Cover file verbose format coverage) contents = IsFileKnown contents (string_bytes file)
 AreKnown (Fair file verbose format search) contents = IsFileKnown contents (string_bytes file)
+AreKnown (Blocked file verbose format search) contents = IsFileKnown contents (string_bytes file)
 AreKnown (Explain number) contents = Unit {0}
 AreKnown (ExplainEnd word number) contents = Unit {0}
 

@@ -240,6 +240,12 @@ pub(crate) fn keep_files<F: Files, E: Write>(
             verbose,
             format,
             ..
+        }
+        | Request::Blocked {
+            file,
+            verbose,
+            format,
+            ..
         } => {
             let source = NamedFile::source(file.as_str(), *verbose, *format);
             keep(alloc, &source, files, &mut kept, err)?;

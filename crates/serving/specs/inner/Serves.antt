@@ -3,6 +3,7 @@ use Rattle.std.specs.Prelude.{◌≡◌, ◌≤◌, ◌++◌, ℕ, List, Option,
 use Rattle.command.specs.declared.request.Claim.{Claim}
 use Rattle.command.specs.declared.request.Comparison.{Comparison}
 use Rattle.command.specs.declared.request.Coverage.{Coverage}
+use Rattle.command.specs.declared.request.BlockedSearch.{BlockedSearch}
 use Rattle.command.specs.declared.request.FairSearch.{FairSearch}
 use Rattle.command.specs.declared.request.Questions.{Questions}
 use Rattle.command.specs.declared.request.Task.{Task}
@@ -18,6 +19,7 @@ use Rattle.serving.specs.Certified.{CertifiesReport, SaysSo, ShowsDifference, Wr
 use Rattle.serving.specs.Compared.{ComparesOutcomes, HaveNoCode, WritesComparison}
 use Rattle.serving.specs.Coverings.{AnswersCoverage, IsCoverageOf, IsTextOfCoverings, TellsCoverings}
 use Rattle.serving.specs.Expected.{SaysExpected, ShowsUnexpected}
+use Rattle.serving.specs.Blocked.{AnswersBlocked, IsBlockedText, IsBlockedTextOf, TellsBlocked}
 use Rattle.serving.specs.Fair.{AnswersFair, IsFairText, IsFairTextOf, TellsFair}
 use Rattle.serving.specs.InTurn.{AreTextsInTurn, SaysInTurn}
 use Rattle.serving.specs.Limits.{HasNoCode}
@@ -91,6 +93,12 @@ abbrev pub ServesFair : FairSearch → (bytes : Option (List ℕ)) → (status :
 ServesFair search bytes status old new =
     ServesFile 5 (λ text s o n. AnswersFair search text s o n) (λ text. HasNoCode text)
     (λ text o n. WritesPart (IsFairTextOf search text) o n) bytes status old new
+
+-- the states in which they are blocked
+abbrev pub ServesBlocked : BlockedSearch → (bytes : Option (List ℕ)) → (status : ℕ) → (old new : Option (List ℕ)) → Type 0
+ServesBlocked search bytes status old new =
+    ServesFile 5 (λ text s o n. AnswersBlocked search text s o n) (λ text. HasNoCode text)
+    (λ text o n. WritesPart (IsBlockedTextOf search text) o n) bytes status old new
 
 -- whether something holds of these bytes or not
 abbrev pub ServesEither : (IsSo IsNot : List ℕ → List ℕ → Type 0) → (Refuses : Type 0) → (bytes : Option (List ℕ)) →
@@ -171,3 +179,8 @@ PrintsCoverings AreFound status old new =
 abbrev pub PrintsFair : Program → (threads : ℕ) → (status : ℕ) → (old new : Option (List ℕ)) → Type 0
 PrintsFair p threads status old new =
     Serves 5 (TellsFair p threads) ⊥ (WritesPart (IsFairText p threads)) status old new
+
+-- likewise, the list of the orders after which threads are blocked
+abbrev pub PrintsBlocked : Program → (threads : ℕ) → (status : ℕ) → (old new : Option (List ℕ)) → Type 0
+PrintsBlocked p threads status old new =
+    Serves 5 (TellsBlocked p threads) ⊥ (WritesPart (IsBlockedText p threads)) status old new

@@ -6,4 +6,5 @@ returns c =
     let two = c.with-command-2.ensures _ _ one c.text-last.ensures.rule c.text-last.ensures.global in
     let three = c.with-command-3.ensures _ _ two c.flag-keep_going.ensures.rule c.flag-keep_going.ensures.global in
     let four = c.with-command-4.ensures _ _ three c.flag-trace.ensures.rule c.flag-trace.ensures.global in
-    c.with.ensures _ _ four c.flag-fair.ensures.rule c.flag-fair.ensures.global
+    let five = c.with-command-5.ensures _ _ four c.flag-fair.ensures.rule c.flag-fair.ensures.global in
+    c.with.ensures _ _ five c.flag-blocked.ensures.rule c.flag-blocked.ensures.global
