@@ -7,7 +7,7 @@
 
 Each example of the page's first table must be in crates/serving_tests/src/refusals.rt, with the same number, place and
 words, in TOLD or LONG, and the page's report of a thread's place in src/places/ of the same crate. Each number of the page
-has its words in crates/messages/src/table.rt, and each variant of a fault type (`#[error("..")]`) the words of its number,
+has its words in crates/fault_lines/src/table.rt, and each variant of a fault type (`#[error("..")]`) the words of its number,
 or, in a type without numbers, the words of some number.
 Each warning of crates/warnings/src/warning.rt has a row in docs/COMMANDS.md, its words in crates/messages/src/warnings.rt,
 and an example, with its place, that crates/front_end_tests/src/of_warnings/rows.rt runs.
@@ -219,7 +219,7 @@ def main():
     here = documented(next(it for it in parts if it.startswith("Source errors")))
     wrong += [f"no test has the example of {row[1]:02} at {row[2]}: {row[0][:80]!r}" for row in here if row not in told]
     wrong += [f"the page has no example of {row[1]:02} at {row[2]}: {row[0][:80]!r}" for row in told if row not in here]
-    words = {int(number): text for number, text in re.findall(rf"(\d+) => {TEXT}", read("crates/messages/src/table.rt"))}
+    words = {int(number): text for number, text in re.findall(rf"(\d+) => {TEXT}", read("crates/fault_lines/src/table.rt"))}
     shown = {int(number): text for number, text in re.findall(r"^\| (\d\d) \| ([^|]*?) \|", page, re.M)}
     wrong += [
         f"{number:02}: the page has {shown.get(number)!r}, the program {words.get(number)!r}"

@@ -57,6 +57,7 @@ PROMISES = (
     ("`txc replay --print-schedule`", "PrintsSchedule lines_of_seed PrintsOrder"),
     ("`txc listing`", "PrintsListing"),
     ("a rejection by `check`, `source`, `certify` (status 1)", "IsRefused"),
+    ("the line on standard error about a rejection by `check`", "TellsWords"),
     ("a rejection by a command that generates code (status 1)", "HasNoCode"),
     ("what is written, whatever the status", "WritesFor"),
     ("`serve`: every command", "AnswersRequest WritesFor IsRequestRefused"),

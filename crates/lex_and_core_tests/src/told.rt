@@ -2,7 +2,8 @@
 
 use crate::asserted::{assert_all, assert_none};
 use lex::token::Span;
-use messages::{explanation, underline, words};
+use fault_lines::words;
+use messages::{explanation, underline};
 use std::alloc::{AllocError, Allocator, Global};
 use test_memory::{Refusing, growths};
 

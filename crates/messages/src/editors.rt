@@ -3,7 +3,7 @@
 use crate::beside::hints;
 use crate::carets::push_shown;
 use crate::lines::push_place;
-use crate::table::words;
+use fault_lines::words;
 use lex::token::Span;
 use std::alloc::{AllocError, Allocator};
 

@@ -3,8 +3,8 @@
 use crate::beside::hints;
 use crate::editors::Fault;
 use crate::lines::push_place;
-use crate::table::words;
 use crate::warnings::{WarningWords, warning_words};
+use fault_lines::words;
 use json::Writer;
 use lex::place;
 use lex::token::Span;

@@ -68,5 +68,7 @@ pub mod Answers
 pub mod Files
 -- numbers in place of names of sources
 pub mod Numbers
+-- reports on standard error about a refused source
+pub mod Told
 -- definitions for private functions alone
 pub mod inner

@@ -21,6 +21,7 @@ use crate::request::bytes_of_memory;
 use crate::results::tell_admission;
 use crate::tell::{Teller, cannot_write, out_of_memory};
 use crate::walked::OutcomesFound;
+use fault_lines::Tell;
 use refinements::{Admission, admission_of};
 use report::report_text;
 use std::alloc::Allocator;
@@ -28,7 +29,7 @@ use std::io;
 use std::io::{Read, Write};
 
 /// Reports whether the report in a file is that of an outcome of a source's text. It is read before the search begins.
-pub(crate) fn admit<A: Allocator + Copy, Q: Read + Drop, W: Write, E: Write>(
+pub(crate) fn admit<A: Allocator + Copy, Q: Read + Drop, W: Write, E: Tell>(
     alloc: A,
     limits: Limits,
     text: &str,
@@ -47,7 +48,7 @@ pub(crate) fn admit<A: Allocator + Copy, Q: Read + Drop, W: Write, E: Write>(
 }
 
 /// Reports whether the report in a file is that of an outcome of a program.
-fn admit_report<A: Allocator + Copy, Q: Read + Drop, W: Write, E: Write>(
+fn admit_report<A: Allocator + Copy, Q: Read + Drop, W: Write, E: Tell>(
     alloc: A,
     limits: Limits,
     compiled: &Compiled<A>,
@@ -70,7 +71,7 @@ fn admit_report<A: Allocator + Copy, Q: Read + Drop, W: Write, E: Write>(
 }
 
 /// Reports whether a report is that of an outcome of a program.
-fn admit_bytes<A: Allocator + Copy, W: Write, E: Write>(
+fn admit_bytes<A: Allocator + Copy, W: Write, E: Tell>(
     alloc: A,
     limits: Limits,
     compiled: &Compiled<A>,
@@ -92,7 +93,7 @@ fn admit_bytes<A: Allocator + Copy, W: Write, E: Write>(
 }
 
 /// Reports whether one of these outcomes has a report. If they may not be all, it is not reported that none has it.
-fn tell_found<A: Allocator + Copy, W: Write, E: Write>(
+fn tell_found<A: Allocator + Copy, W: Write, E: Tell>(
     alloc: A,
     threads: u32,
     found: &OutcomesFound<A>,
@@ -108,11 +109,11 @@ fn tell_found<A: Allocator + Copy, W: Write, E: Write>(
     match admission_of(alloc, file, threads, found.outcomes.as_slice(), report) {
         Ok(told) => {
             let status = tell_admitted(found, &told, out, teller);
-            tell_ends(alloc, &told, report, status, teller.err);
+            tell_ends(alloc, &told, report, status, &mut teller.err);
             tell_admission(found, threads, &told, file, status, teller);
             status
         }
-        Err(_) => out_of_memory(teller.err),
+        Err(_) => out_of_memory(&mut teller.err),
     }
 }
 
@@ -142,7 +143,7 @@ fn is_admitted<A: Allocator>(told: &Admission<'_, A>) -> bool
 }
 
 /// Reports that an outcome has a report, or that none of these has it, if they are all.
-fn tell_admitted<A: Allocator, W: Write, E: Write>(
+fn tell_admitted<A: Allocator, W: Write, E: Tell>(
     found: &OutcomesFound<A>,
     told: &Admission<'_, A>,
     out: &mut W,
@@ -154,14 +155,14 @@ fn tell_admitted<A: Allocator, W: Write, E: Write>(
 {
     let text = told.text.as_slice();
     if is_admitted(told) {
-        return print_text(text, out, teller.err);
+        return print_text(text, out, &mut teller.err);
     }
     tell_nearest(found, text, out, teller)
 }
 
 /// Shows where the nearest outcome differs from a report, if these are all outcomes. Otherwise the report may be that
 /// of an outcome that was not found.
-fn tell_nearest<A: Allocator, W: Write, E: Write>(
+fn tell_nearest<A: Allocator, W: Write, E: Tell>(
     found: &OutcomesFound<A>,
     text: &[u8],
     out: &mut W,
@@ -176,7 +177,7 @@ fn tell_nearest<A: Allocator, W: Write, E: Write>(
     }
     match print(text, out) {
         Ok(()) => REFUTED,
-        Err(_) => cannot_write(teller.err),
+        Err(_) => cannot_write(&mut teller.err),
     }
 }
 
@@ -221,7 +222,7 @@ fn is_report(text: &[u8]) -> bool {
 }
 
 /// The report in a file. The error is the exit status, and the reason is reported on standard error.
-fn report_of<A: Allocator + Copy, Q: Read + Drop, E: Write>(
+fn report_of<A: Allocator + Copy, Q: Read + Drop, E: Tell>(
     alloc: A,
     most: u64,
     file: &str,

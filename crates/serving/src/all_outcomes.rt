@@ -26,13 +26,14 @@ use crate::source::OrderFault;
 use crate::tell::{Teller, cannot_write, out_of_memory};
 use crate::walked::{OutcomesFound, outcomes_in};
 use command::ThreadRange;
+use fault_lines::Tell;
 use report::{ReportedOrder, WalkEnd, list_text};
 use std::alloc::Allocator;
 use std::io::Write;
 
 /// Lists the outcomes of a source's threads over all orders, and the stuck orders, for one number of threads after
 /// another, up to the first whose status is not 0.
-pub(crate) fn all_outcomes<A: Allocator + Copy, W: Write, E: Write>(
+pub(crate) fn all_outcomes<A: Allocator + Copy, W: Write, E: Tell>(
     alloc: A,
     text: &str,
     range: ThreadRange,
@@ -55,7 +56,7 @@ pub(crate) fn all_outcomes<A: Allocator + Copy, W: Write, E: Write>(
 }
 
 /// Lists the outcomes of a program for one number of threads after another.
-fn list_in_turn<A: Allocator + Copy, W: Write, E: Write>(
+fn list_in_turn<A: Allocator + Copy, W: Write, E: Tell>(
     alloc: A,
     text: &str,
     compiled: &Compiled<A>,
@@ -87,7 +88,7 @@ fn list_in_turn<A: Allocator + Copy, W: Write, E: Write>(
 }
 
 /// Lists the outcomes of this many threads of a program.
-fn list_of_threads<A: Allocator + Copy, W: Write, E: Write>(
+fn list_of_threads<A: Allocator + Copy, W: Write, E: Tell>(
     alloc: A,
     text: &str,
     compiled: &Compiled<A>,
@@ -105,7 +106,7 @@ fn list_of_threads<A: Allocator + Copy, W: Write, E: Write>(
 {
     match outcomes_in(alloc, compiled, threads, steps, limit, memory, teller) {
         Ok(found) => {
-            let status = print_outcomes(alloc, &found, threads, out, teller.err);
+            let status = print_outcomes(alloc, &found, threads, out, &mut teller.err);
             tell_list(&found, threads, status, teller);
             tell_listed_ends(alloc, text, threads, &found, teller);
             tell_listed_traces(alloc, text, compiled, threads, &found, teller);

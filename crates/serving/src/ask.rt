@@ -26,13 +26,14 @@ use crate::request::bytes_of_memory;
 use crate::results::tell_answers;
 use crate::tell::{Teller, cannot_write, out_of_memory};
 use command::{Questions, ThreadRange};
+use fault_lines::Tell;
 use messages::write_shown;
 use report::{Finding, Property, WalkEnd, properties_text};
 use std::alloc::{AllocError, Allocator};
 use std::io::{Read, Write};
 
 /// Opens the source, and reports whether functions of it hold.
-pub(crate) fn open_asked<A: Allocator + Copy, F: Files, W: Write, E: Write>(
+pub(crate) fn open_asked<A: Allocator + Copy, F: Files, W: Write, E: Tell>(
     alloc: A,
     file: &str,
     questions: &Questions,
@@ -51,7 +52,7 @@ pub(crate) fn open_asked<A: Allocator + Copy, F: Files, W: Write, E: Write>(
 
 /// Reports whether functions of a source hold. The status is 0 if all do and no order is stuck, and 5 if some function
 /// fails. Otherwise it is as for `serve`.
-pub(crate) fn ask<A: Allocator + Copy, R: Read + Drop, W: Write, E: Write>(
+pub(crate) fn ask<A: Allocator + Copy, R: Read + Drop, W: Write, E: Tell>(
     alloc: A,
     questions: &Questions,
     source: R,
@@ -68,7 +69,7 @@ pub(crate) fn ask<A: Allocator + Copy, R: Read + Drop, W: Write, E: Write>(
 }
 
 /// Reports whether functions of a source's text hold.
-fn ask_text<A: Allocator + Copy, W: Write, E: Write>(
+fn ask_text<A: Allocator + Copy, W: Write, E: Tell>(
     alloc: A,
     questions: &Questions,
     text: &str,
@@ -109,7 +110,7 @@ pub(crate) fn names_of<'a, A: Allocator>(
 }
 
 /// Reports whether functions of a program hold.
-fn ask_program<A: Allocator + Copy, W: Write, E: Write>(
+fn ask_program<A: Allocator + Copy, W: Write, E: Tell>(
     alloc: A,
     questions: &Questions,
     text: &str,
@@ -137,9 +138,9 @@ fn ask_program<A: Allocator + Copy, W: Write, E: Write>(
                 out,
                 teller,
             ),
-            Err(_) => out_of_memory(teller.err),
+            Err(_) => out_of_memory(&mut teller.err),
         },
-        Err(_) => out_of_memory(teller.err),
+        Err(_) => out_of_memory(&mut teller.err),
     }
 }
 
@@ -157,7 +158,7 @@ fn extent_of(questions: &Questions) -> Extent
 
 /// Reports whether functions of these names hold in every state, and functions of those in every outcome. It tries one
 /// number of threads after another, up to the first whose status is not 0.
-fn ask_in_turn<A: Allocator + Copy, W: Write, E: Write>(
+fn ask_in_turn<A: Allocator + Copy, W: Write, E: Tell>(
     alloc: A,
     questions: &Questions,
     range: ThreadRange,
@@ -192,7 +193,7 @@ fn ask_in_turn<A: Allocator + Copy, W: Write, E: Write>(
 }
 
 /// Reports whether functions of these names hold in every state of this many threads, and of those in every outcome.
-fn ask_names<A: Allocator + Copy, W: Write, E: Write>(
+fn ask_names<A: Allocator + Copy, W: Write, E: Tell>(
     alloc: A,
     questions: &Questions,
     threads: u32,
@@ -211,10 +212,10 @@ fn ask_names<A: Allocator + Copy, W: Write, E: Write>(
     ensures unaskable { result ≡ 2 → HasUnaskable (program_of compiled.now.accepted.safe.typed.unit)
         (asked_each false (map (λ n. n.now) always.now) ++ asked_each true (map (λ n. n.now) last.now)) }
 {
-    if let Some(status) = refuse_names(alloc, compiled, "always", always, teller.err) {
+    if let Some(status) = refuse_names(alloc, compiled, "always", always, &mut teller.err) {
         return status;
     }
-    if let Some(status) = refuse_names(alloc, compiled, "final", last, teller.err) {
+    if let Some(status) = refuse_names(alloc, compiled, "final", last, &mut teller.err) {
         return status;
     }
     match properties_in(
@@ -227,7 +228,7 @@ fn ask_names<A: Allocator + Copy, W: Write, E: Write>(
         teller,
     ) {
         Ok(found) => {
-            let status = print_found(alloc, &found, threads, out, teller.err);
+            let status = print_found(alloc, &found, threads, out, &mut teller.err);
             let accepted = &compiled.accepted;
             tell_answers(text, unit_of(accepted), &found, threads, status, teller);
             tell_asked_ends(alloc, text, accepted, threads, &found, teller);

@@ -17,6 +17,7 @@ use crate::source::order_accepted;
 use crate::tell::{Teller, cannot_write, out_of_memory, unusable};
 use command::{Claim, listed_order};
 use differences::difference;
+use fault_lines::Tell;
 use meaning::MeaningFault;
 use report::{Printed, report_text};
 use separation::Accepted;
@@ -26,7 +27,7 @@ use std::io::{Read, Write};
 use walks::MOST_STEPS;
 
 /// Opens the files of a claim, first the source, then the order and the report, and reports whether the claim is true.
-pub(crate) fn open_claim<A: Allocator + Copy, F: Files, W: Write, E: Write>(
+pub(crate) fn open_claim<A: Allocator + Copy, F: Files, W: Write, E: Tell>(
     alloc: A,
     file: &str,
     claim: &Claim,
@@ -45,7 +46,7 @@ pub(crate) fn open_claim<A: Allocator + Copy, F: Files, W: Write, E: Write>(
 }
 
 /// Opens the order, and then the report, and reports whether a claim is true.
-fn open_order<A: Allocator + Copy, F: Files, R: Read + Drop, W: Write, E: Write>(
+fn open_order<A: Allocator + Copy, F: Files, R: Read + Drop, W: Write, E: Tell>(
     alloc: A,
     claim: &Claim,
     source: R,
@@ -64,7 +65,7 @@ fn open_order<A: Allocator + Copy, F: Files, R: Read + Drop, W: Write, E: Write>
 }
 
 /// Opens the report, and reports whether a claim is true.
-fn open_report<A: Allocator + Copy, F: Files, R: Read + Drop, S: Read + Drop, W: Write, E: Write>(
+fn open_report<A: Allocator + Copy, F: Files, R: Read + Drop, S: Read + Drop, W: Write, E: Tell>(
     alloc: A,
     claim: &Claim,
     source: R,
@@ -91,7 +92,7 @@ pub(crate) fn certify<
     S: Read + Drop,
     Q: Read + Drop,
     W: Write,
-    E: Write,
+    E: Tell,
 >(
     alloc: A,
     claim: &Claim,
@@ -111,7 +112,7 @@ pub(crate) fn certify<
 }
 
 /// Reports whether a claim about a source's text is true.
-fn certify_text<A: Allocator + Copy, S: Read + Drop, Q: Read + Drop, W: Write, E: Write>(
+fn certify_text<A: Allocator + Copy, S: Read + Drop, Q: Read + Drop, W: Write, E: Tell>(
     alloc: A,
     claim: &Claim,
     text: &str,
@@ -141,7 +142,7 @@ fn certify_text<A: Allocator + Copy, S: Read + Drop, Q: Read + Drop, W: Write, E
 }
 
 /// Reports whether a claim about an accepted program and this order is true.
-fn certify_order<A: Allocator + Copy, Q: Read + Drop, W: Write, E: Write>(
+fn certify_order<A: Allocator + Copy, Q: Read + Drop, W: Write, E: Tell>(
     alloc: A,
     claim: &Claim,
     accepted: &Accepted<A>,
@@ -163,8 +164,8 @@ fn certify_order<A: Allocator + Copy, Q: Read + Drop, W: Write, E: Write>(
             teller,
         ),
         Err(DueFault::Order(fault)) => teller.refuse_order(fault),
-        Err(DueFault::Long) => too_long(teller.err),
-        Err(DueFault::Spent) => spent(teller.err),
+        Err(DueFault::Long) => too_long(&mut teller.err),
+        Err(DueFault::Spent) => spent(&mut teller.err),
     }
 }
 
@@ -289,7 +290,7 @@ fn due_report<A: Allocator + Copy>(
 }
 
 /// Reports whether the report in a file is the expected one.
-fn certify_due<A: Allocator + Copy, Q: Read + Drop, W: Write, E: Write>(
+fn certify_due<A: Allocator + Copy, Q: Read + Drop, W: Write, E: Tell>(
     alloc: A,
     due: &[u8],
     file: &str,
@@ -301,13 +302,13 @@ fn certify_due<A: Allocator + Copy, Q: Read + Drop, W: Write, E: Write>(
         (W.contents out.new) }
 {
     match read_all(alloc, report) {
-        Ok(found) => tell_verdict(alloc, due, found.as_slice(), out, teller.err),
+        Ok(found) => tell_verdict(alloc, due, found.as_slice(), out, &mut teller.err),
         Err(error) => teller.not_read(file, &error),
     }
 }
 
 /// The order that a file lists. The error is the exit status, and the reason is reported on standard error.
-fn order_of<A: Allocator + Copy, S: Read + Drop, E: Write>(
+fn order_of<A: Allocator + Copy, S: Read + Drop, E: Tell>(
     alloc: A,
     file: &str,
     order: S,
@@ -320,17 +321,17 @@ fn order_of<A: Allocator + Copy, S: Read + Drop, E: Write>(
         Ok(listed) => match listed_order(alloc, listed.as_slice()) {
             Ok(Some(order)) => Ok(order),
             Ok(None) => Err(bad_order(teller)),
-            Err(_) => Err(out_of_memory(teller.err)),
+            Err(_) => Err(out_of_memory(&mut teller.err)),
         },
         Err(error) => Err(teller.not_read(file, &error)),
     }
 }
 
 /// Reports that a file lists no order. If lines are wanted, also reports how to write one.
-fn bad_order<E: Write>(teller: &mut Teller<'_, E>) -> u8
+fn bad_order<E: Tell>(teller: &mut Teller<'_, E>) -> u8
     ensures { result ≡ 2 }
 {
-    let status = unusable("bad --order-file", teller.err);
+    let status = unusable("bad --order-file", &mut teller.err);
     if teller.detail.lines {
         let _ = writeln!(
             teller.err,

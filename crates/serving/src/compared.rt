@@ -15,6 +15,7 @@ use crate::refined::refine;
 use crate::tell::Teller;
 use crate::walked::OutcomesFound;
 use command::{Against, Comparison};
+use fault_lines::Tell;
 use messages::write_shown;
 use report::WalkEnd;
 use std::alloc::Allocator;
@@ -32,7 +33,7 @@ fn name_of(against: &Against) -> &str
 }
 
 /// Opens the source, and then the file with which its outcomes are compared, and compares them.
-pub(crate) fn open_comparison<A: Allocator + Copy, F: Files, W: Write, E: Write>(
+pub(crate) fn open_comparison<A: Allocator + Copy, F: Files, W: Write, E: Tell>(
     alloc: A,
     file: &str,
     comparison: &Comparison,
@@ -50,7 +51,7 @@ pub(crate) fn open_comparison<A: Allocator + Copy, F: Files, W: Write, E: Write>
 }
 
 /// Opens the file with which a source's outcomes are compared, and compares them.
-fn open_other<A: Allocator + Copy, F: Files, R: Read + Drop, W: Write, E: Write>(
+fn open_other<A: Allocator + Copy, F: Files, R: Read + Drop, W: Write, E: Tell>(
     alloc: A,
     comparison: &Comparison,
     source: R,
@@ -70,7 +71,7 @@ fn open_other<A: Allocator + Copy, F: Files, R: Read + Drop, W: Write, E: Write>
 
 /// Compares the outcomes of a source with those of another program, a list or a report. Reports that they match, or
 /// shows the first difference. The source is read first. The status is 0 if they match, 5 if not, and else as for `serve`.
-pub(crate) fn compare<A: Allocator + Copy, R: Read + Drop, Q: Read + Drop, W: Write, E: Write>(
+pub(crate) fn compare<A: Allocator + Copy, R: Read + Drop, Q: Read + Drop, W: Write, E: Tell>(
     alloc: A,
     comparison: &Comparison,
     source: R,
@@ -88,7 +89,7 @@ pub(crate) fn compare<A: Allocator + Copy, R: Read + Drop, Q: Read + Drop, W: Wr
 }
 
 /// Compares the outcomes of a source's text.
-fn compare_text<A: Allocator + Copy, Q: Read + Drop, W: Write, E: Write>(
+fn compare_text<A: Allocator + Copy, Q: Read + Drop, W: Write, E: Tell>(
     alloc: A,
     comparison: &Comparison,
     text: &str,
@@ -148,7 +149,7 @@ pub(crate) fn is_whole<A: Allocator>(found: &OutcomesFound<A>) -> bool
 
 /// Reports which limit stopped the search of the program in a file, after the words `so_far`. If lines are wanted, also
 /// reports which option lets it continue.
-pub(crate) fn tell_stopped<E: Write>(
+pub(crate) fn tell_stopped<E: Tell>(
     name: &str,
     so_far: &str,
     end: WalkEnd,
@@ -157,7 +158,7 @@ pub(crate) fn tell_stopped<E: Write>(
     ensures { result ≡ 4 }
 {
     let _ = teller.err.write_all(b"txc: ");
-    let _ = write_shown(name, "", teller.err);
+    let _ = write_shown(name, "", &mut teller.err);
     let _ = teller.err.write_all(b": ");
     let _ = teller.err.write_all(so_far.as_bytes());
     let _ = match end {
@@ -167,7 +168,7 @@ pub(crate) fn tell_stopped<E: Write>(
         WalkEnd::Whole | WalkEnd::AtLimit => teller.err.write_all(b"stopped at the limit\n"),
     };
     if teller.detail.lines {
-        tell_stop(end, teller.err);
+        tell_stop(end, &mut teller.err);
     }
     STOPPED
 }

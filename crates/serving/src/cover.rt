@@ -19,12 +19,13 @@ use crate::properties::Extent;
 use crate::request::bytes_of_memory;
 use crate::tell::{Teller, cannot_write, out_of_memory};
 use command::Coverage;
+use fault_lines::Tell;
 use report::{CoveredFinding, CoveredProperty, coverings_text};
 use std::alloc::Allocator;
 use std::io::{Read, Write};
 
 /// Opens the source, and reports whether functions of it hold for every number of threads.
-pub(crate) fn open_covered<A: Allocator + Copy, F: Files, W: Write, E: Write>(
+pub(crate) fn open_covered<A: Allocator + Copy, F: Files, W: Write, E: Tell>(
     alloc: A,
     file: &str,
     coverage: &Coverage,
@@ -43,7 +44,7 @@ pub(crate) fn open_covered<A: Allocator + Copy, F: Files, W: Write, E: Write>(
 
 /// Reports whether functions of a source hold for every number of threads. The status is 0 if all do, and 5 if some
 /// function fails. Otherwise it is as for `serve`.
-pub(crate) fn cover<A: Allocator + Copy, R: Read + Drop, W: Write, E: Write>(
+pub(crate) fn cover<A: Allocator + Copy, R: Read + Drop, W: Write, E: Tell>(
     alloc: A,
     coverage: &Coverage,
     source: R,
@@ -59,7 +60,7 @@ pub(crate) fn cover<A: Allocator + Copy, R: Read + Drop, W: Write, E: Write>(
 }
 
 /// Reports whether functions of a source's text hold for every number of threads.
-fn cover_text<A: Allocator + Copy, W: Write, E: Write>(
+fn cover_text<A: Allocator + Copy, W: Write, E: Tell>(
     alloc: A,
     coverage: &Coverage,
     text: &str,
@@ -75,7 +76,7 @@ fn cover_text<A: Allocator + Copy, W: Write, E: Write>(
 }
 
 /// Reports whether functions of a program hold for every number of threads.
-fn cover_program<A: Allocator + Copy, W: Write, E: Write>(
+fn cover_program<A: Allocator + Copy, W: Write, E: Tell>(
     alloc: A,
     coverage: &Coverage,
     compiled: &Compiled<A>,
@@ -89,7 +90,7 @@ fn cover_program<A: Allocator + Copy, W: Write, E: Write>(
 {
     match pieces(alloc, coverage.always.as_str()) {
         Ok(names) => cover_names(alloc, coverage, compiled, names.as_slice(), out, teller),
-        Err(_) => out_of_memory(teller.err),
+        Err(_) => out_of_memory(&mut teller.err),
     }
 }
 
@@ -106,7 +107,7 @@ fn extent_of(coverage: &Coverage) -> Extent
 }
 
 /// Reports whether functions of these names hold for every number of threads.
-fn cover_names<A: Allocator + Copy, W: Write, E: Write>(
+fn cover_names<A: Allocator + Copy, W: Write, E: Tell>(
     alloc: A,
     coverage: &Coverage,
     compiled: &Compiled<A>,
@@ -118,12 +119,12 @@ fn cover_names<A: Allocator + Copy, W: Write, E: Write>(
     ensures { PrintsCoverings (AreCoveredOf (program_of compiled.now.accepted.safe.typed.unit) coverage.now.steps
         (map (λ n. n.now) names.now)) result (W.contents out.old) (W.contents out.new) }
 {
-    if let Some(status) = refuse_names(alloc, compiled, "always", names, teller.err) {
+    if let Some(status) = refuse_names(alloc, compiled, "always", names, &mut teller.err) {
         return status;
     }
     match covered_in(alloc, compiled, extent_of(coverage), names, teller) {
-        Ok(found) => print_covered(alloc, found.as_slice(), out, teller.err),
-        Err(_) => out_of_memory(teller.err),
+        Ok(found) => print_covered(alloc, found.as_slice(), out, &mut teller.err),
+        Err(_) => out_of_memory(&mut teller.err),
     }
 }
 

@@ -2,6 +2,7 @@
 
 use crate::tell::{Teller, show_line};
 use bytecode::{Code, InstrView};
+use fault_lines::Tell;
 use lex::place;
 use lex::token::{Scalar, Span};
 use machine::PlaceShown;
@@ -128,7 +129,7 @@ impl HasEnd for LongThread {
 }
 
 /// Reports where threads used up their steps: the threads that are shown as out of ticks.
-pub(crate) fn tell_long<A: Allocator + Copy, E: Write>(
+pub(crate) fn tell_long<A: Allocator + Copy, E: Tell>(
     alloc: A,
     text: &str,
     threads: &[ThreadShown<A>],
@@ -148,7 +149,7 @@ pub(crate) fn tell_long<A: Allocator + Copy, E: Write>(
 
 /// If lines are wanted, reports where each thread trapped or stopped, with the source line. If several threads are at
 /// one place, it shows the line once.
-pub(crate) fn tell_ends<A: Allocator + Copy, T: HasEnd, E: Write>(
+pub(crate) fn tell_ends<A: Allocator + Copy, T: HasEnd, E: Tell>(
     alloc: A,
     text: &str,
     threads: &[T],
@@ -157,13 +158,13 @@ pub(crate) fn tell_ends<A: Allocator + Copy, T: HasEnd, E: Write>(
 ) {
     if teller.detail.lines {
         let mut shown = Vec::new(alloc);
-        tell_threads(alloc, text, threads, stood, &mut shown, teller.err);
+        tell_threads(alloc, text, threads, stood, &mut shown, &mut teller.err);
     }
 }
 
 /// Reports where each thread trapped or stopped. It shows the source line of each place that has not been shown
 /// yet.
-pub(crate) fn tell_threads<A: Allocator + Copy, T: HasEnd, E: Write>(
+pub(crate) fn tell_threads<A: Allocator + Copy, T: HasEnd, E: Tell>(
     alloc: A,
     text: &str,
     threads: &[T],
@@ -182,7 +183,7 @@ pub(crate) fn tell_threads<A: Allocator + Copy, T: HasEnd, E: Write>(
 }
 
 /// Shows the source line of a place that has not been shown yet.
-fn show_new<A: Allocator + Copy, E: Write>(
+fn show_new<A: Allocator + Copy, E: Tell>(
     alloc: A,
     text: &str,
     at: Option<Span>,
@@ -234,7 +235,7 @@ fn is_new(at: Option<Span>, shown: &[Span]) -> bool {
 }
 
 /// If a thread has not ended, reports how and where it stopped. Returns whether it reported anything.
-fn tell_end<E: Write>(text: &str, number: usize, end: End, stood: Stood, err: &mut E) -> bool {
+fn tell_end<E: Tell>(text: &str, number: usize, end: End, stood: Stood, err: &mut E) -> bool {
     let words = match end {
         End::Ended => return false,
         End::Trapped(trap) => {
@@ -255,7 +256,7 @@ fn tell_end<E: Write>(text: &str, number: usize, end: End, stood: Stood, err: &m
 }
 
 /// Reports where a thread trapped, and what it could not compute.
-fn tell_trap<E: Write>(text: &str, number: usize, trap: Trap, stood: Stood, err: &mut E) {
+fn tell_trap<E: Tell>(text: &str, number: usize, trap: Trap, stood: Stood, err: &mut E) {
     let _ = write!(err, "txc: thread {number}: trap {}", trap.number());
     write_place(text, stood.at, err);
     if let Some(cause) = stood.cause {
@@ -266,7 +267,7 @@ fn tell_trap<E: Write>(text: &str, number: usize, trap: Trap, stood: Stood, err:
 }
 
 /// Writes a line and a column.
-fn write_place<E: Write>(text: &str, at: Option<Span>, err: &mut E) {
+fn write_place<E: Tell>(text: &str, at: Option<Span>, err: &mut E) {
     if let Some(at) = at {
         let (line, column) = place(text, at.start.min(text.len()));
         let _ = write!(err, " at {line}:{column}");
@@ -274,7 +275,7 @@ fn write_place<E: Write>(text: &str, at: Option<Span>, err: &mut E) {
 }
 
 /// Writes what could not be computed.
-fn write_cause<E: Write>(text: &str, trap: Trap, cause: TrapCause, at: Option<Span>, err: &mut E) {
+fn write_cause<E: Tell>(text: &str, trap: Trap, cause: TrapCause, at: Option<Span>, err: &mut E) {
     match cause {
         TrapCause::Call => {
             let _ = err.write_all(b"64 frames are live, and this call wants one more");
@@ -302,7 +303,7 @@ fn write_cause<E: Write>(text: &str, trap: Trap, cause: TrapCause, at: Option<Sp
 }
 
 /// Writes the operands of an operation that could not be computed.
-fn write_operation<E: Write>(
+fn write_operation<E: Tell>(
     trap: Trap,
     op: BinaryOp,
     ty: Scalar,
@@ -326,7 +327,7 @@ fn write_operation<E: Write>(
 }
 
 /// Writes a word of unknown type: both its values if it is negative as `int` and not as `unsigned`.
-fn write_word<E: Write>(word: u64, err: &mut E) {
+fn write_word<E: Tell>(word: u64, err: &mut E) {
     let signed = number(Scalar::Int, word);
     let _ = if word <= u64::from(u32::MAX) && signed < 0 {
         write!(err, "{signed} as int, {word} as unsigned")
@@ -347,7 +348,7 @@ fn name_at(text: &str, from: usize) -> &[u8] {
 }
 
 /// Writes the name of the array whose element is at this place.
-fn write_array<E: Write>(text: &str, at: Option<Span>, err: &mut E) {
+fn write_array<E: Tell>(text: &str, at: Option<Span>, err: &mut E) {
     let name = match at {
         Some(at) => name_at(text, at.start),
         None => b"the array".as_slice(),

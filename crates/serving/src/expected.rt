@@ -17,12 +17,13 @@ use crate::source::OrderFault;
 use crate::tell::{Teller, cannot_write, out_of_memory};
 use crate::walked::OutcomesFound;
 use differences::difference;
+use fault_lines::Tell;
 use report::list_text;
 use std::alloc::Allocator;
 use std::io::{Read, Write};
 
 /// Reports whether the list of a source's outcomes is the one in a file, which is read once they are found.
-pub(crate) fn expect<A: Allocator + Copy, Q: Read + Drop, W: Write, E: Write>(
+pub(crate) fn expect<A: Allocator + Copy, Q: Read + Drop, W: Write, E: Tell>(
     alloc: A,
     limits: Limits,
     text: &str,
@@ -50,7 +51,7 @@ pub(crate) fn expect<A: Allocator + Copy, Q: Read + Drop, W: Write, E: Write>(
 }
 
 /// Reports whether the list of these outcomes is the one in a file.
-fn expect_outcomes<A: Allocator + Copy, Q: Read + Drop, W: Write, E: Write>(
+fn expect_outcomes<A: Allocator + Copy, Q: Read + Drop, W: Write, E: Tell>(
     alloc: A,
     found: &OutcomesFound<A>,
     threads: u32,
@@ -71,12 +72,12 @@ fn expect_outcomes<A: Allocator + Copy, Q: Read + Drop, W: Write, E: Write>(
         found.end,
     ) {
         Ok(list) => expect_list(alloc, found, list.as_slice(), file, expected, out, teller),
-        Err(_) => out_of_memory(teller.err),
+        Err(_) => out_of_memory(&mut teller.err),
     }
 }
 
 /// Reports whether a list of these outcomes is the one in a file.
-fn expect_list<A: Allocator + Copy, Q: Read + Drop, W: Write, E: Write>(
+fn expect_list<A: Allocator + Copy, Q: Read + Drop, W: Write, E: Tell>(
     alloc: A,
     found: &OutcomesFound<A>,
     list: &[u8],
@@ -95,7 +96,7 @@ fn expect_list<A: Allocator + Copy, Q: Read + Drop, W: Write, E: Write>(
 }
 
 /// Reports whether a list of these outcomes is the expected one, or shows the first line in which it differs.
-fn tell_expected<A: Allocator + Copy, W: Write, E: Write>(
+fn tell_expected<A: Allocator + Copy, W: Write, E: Tell>(
     alloc: A,
     found: &OutcomesFound<A>,
     list: &[u8],
@@ -111,12 +112,12 @@ fn tell_expected<A: Allocator + Copy, W: Write, E: Write>(
         Ok(Some(difference)) => {
             tell_unexpected(found, difference.as_slice(), expected, list, out, teller)
         }
-        Err(_) => out_of_memory(teller.err),
+        Err(_) => out_of_memory(&mut teller.err),
     }
 }
 
 /// Reports that a list of these outcomes is the expected one, if these are all outcomes. Otherwise there may be more.
-fn tell_same<A: Allocator, W: Write, E: Write>(
+fn tell_same<A: Allocator, W: Write, E: Tell>(
     found: &OutcomesFound<A>,
     out: &mut W,
     teller: &mut Teller<'_, E>,
@@ -125,7 +126,7 @@ fn tell_same<A: Allocator, W: Write, E: Write>(
         (W.contents out.old) (W.contents out.new) }
 {
     if is_whole(found) {
-        print_text(b"as expected\n", out, teller.err)
+        print_text(b"as expected\n", out, &mut teller.err)
     } else {
         tell_stopped(teller.detail.file, "as expected, ", found.end, teller)
     }
@@ -133,7 +134,7 @@ fn tell_same<A: Allocator, W: Write, E: Write>(
 
 /// Shows the first line in which a list of these outcomes differs, if these are all. Otherwise the difference may be an
 /// outcome that was not found.
-fn tell_unexpected<A: Allocator, W: Write, E: Write>(
+fn tell_unexpected<A: Allocator, W: Write, E: Tell>(
     found: &OutcomesFound<A>,
     difference: &[u8],
     expected: &[u8],
@@ -149,9 +150,9 @@ fn tell_unexpected<A: Allocator, W: Write, E: Write>(
     }
     match print(difference, out) {
         Ok(()) => {
-            tell_line_ends(expected, list, teller.err);
+            tell_line_ends(expected, list, &mut teller.err);
             REFUTED
         }
-        Err(_) => cannot_write(teller.err),
+        Err(_) => cannot_write(&mut teller.err),
     }
 }

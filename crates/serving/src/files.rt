@@ -4,10 +4,11 @@ ghost use Rattle.std.specs.Prelude.{◌≡◌, ◌≤◌, ℕ, IfOk, IfSome, Lis
 ghost use Rattle.std.specs.Prelude.{take, OnOk};
 ghost use Rattle.serving.specs.Answers.{most_status};
 ghost use Rattle.serving.specs.Files.{AnswersFiles, RefusesSource, WritesForFiles, schedule_in, schedule_of};
-ghost use Rattle.serving.specs.Refusals.{IsRefused};
+ghost use Rattle.serving.specs.Refusals.{IsFaultOfSource, IsRefused};
 ghost use Rattle.serving.specs.Sources.{IsTextOf};
 ghost use Rattle.replay.specs.declared.line.TheConstants.{MOST_STEPS};
 ghost use Rattle.serving.specs.Replays.{AreLinesOf, AreTurnsOf, IsSchedule, lines_of_seed};
+ghost use Rattle.serving.specs.Told.{TellsOfFiles, TellsPlain, TellsRefusal};
 ghost use Rattle.serving.specs.inner.Serves.{ServesTask};
 
 use crate::ask::open_asked;
@@ -20,9 +21,9 @@ use crate::tell::{Detail, Teller, refuse_replay};
 use crate::timed::Timed;
 use bytecode::Code;
 use command::{Request, Steps, Task};
+use fault_lines::Tell;
 use lex::MOST_BYTES;
 use meaning::MeaningFault;
-use parameters::Definition;
 use replay::{Line, ScheduleFault, TurnsFault, read_schedule, seeded, turns};
 use std::alloc::{Allocator, Global};
 use std::io;
@@ -43,33 +44,38 @@ pub trait Files {
     /// Opens the file of a name.
     fn open(&self, name: &str) -> io::Result<Self::File>
         ensures { IfOk result (λ file. Self.File.remaining file ≡ contents self.now name.now) };
-
-    /// The numbers that replace names of the source.
-    fn definitions(&self) -> &[Definition] {
-        &[]
-    }
 }
 
 /// Opens the files that a request names, answers the request over them and two writers, and returns the exit status, as
-/// `serve` does.
+/// `serve` does. The request replaces the teller's detail, except its definitions.
 ///
 /// The source is opened first, and then a schedule, or an order and a report, or the file with which outcomes are
 /// compared, if the request names them. A file that cannot be opened is reported as one that cannot be read. The source
-/// line of a fault follows the fault if `err` is a terminal, or if the request asks for it. A progress line on a
-/// terminal has the seconds since the request, by the clock of `rt`. The same clock ends a search that has a time
-/// limit.
+/// line of a fault follows the fault if the teller's writer is a terminal, or on request. A progress line on a terminal
+/// has the seconds since the request, by the clock of `rt`. The same clock ends a search that has a time limit.
 pub fn serve_files<
+    'r,
     H: Threads + Wait + Clock + Sync,
     F: Files,
     W: Write,
-    E: Write + IsTerminal + Send,
->(rt: &H, alloc: Global, request: &Request, files: &F, out: &mut W, err: &mut E) -> u8
+    E: Tell + IsTerminal + Send,
+>(
+    rt: &H,
+    alloc: Global,
+    request: &'r Request,
+    files: &F,
+    out: &mut W,
+    teller: &mut Teller<'r, E>,
+) -> u8
     ensures status { result ≤ most_status request.now }
     ensures answer { AnswersFiles request.now (F.contents files.now) result (W.contents out.old) (W.contents out.new) }
     ensures written { WritesForFiles request.now (F.contents files.now) (W.contents out.old) (W.contents out.new) }
     ensures refused { result ≡ 1 → RefusesSource request.now (F.contents files.now) }
     ensures untouched { result ≡ 1 → W.contents out.new ≡ W.contents out.old }
+    ensures told { result ≡ 1 → TellsOfFiles request.now (F.contents files.now) (E.contents teller.old.err)
+        (E.contents teller.new.err) }
 {
+    let is_terminal = teller.err.is_terminal();
     match request {
         Request::Program {
             file,
@@ -78,20 +84,16 @@ pub fn serve_files<
             task,
         } => {
             let file = file.as_str();
-            let is_terminal = err.is_terminal();
-            let detail = Detail::of(file, *verbose, *format, is_terminal).defining(
-                files.definitions(),
-            );
+            let definitions = teller.detail.definitions;
+            teller.detail = Detail::of(file, *verbose, *format, is_terminal);
+            teller.detail.definitions = definitions;
             match task {
                 Task::Outcomes { time, .. } => {
-                    let mut timed = Timed::new(err, rt, *time);
-                    let mut teller = Teller::new(&mut timed, detail);
-                    open_source(rt, alloc, file, task, files, out, &mut teller)
+                    let timed = Timed::new(&mut teller.err, rt, *time);
+                    let mut slow = Teller::new(timed, teller.detail);
+                    open_source(rt, alloc, file, task, files, out, &mut slow)
                 }
-                _ => {
-                    let mut teller = Teller::new(err, detail);
-                    open_source(rt, alloc, file, task, files, out, &mut teller)
-                }
+                _ => open_source(rt, alloc, file, task, files, out, teller),
             }
         }
         Request::Certify {
@@ -100,9 +102,8 @@ pub fn serve_files<
             format,
             claim,
         } => {
-            let detail = Detail::of(file.as_str(), *verbose, *format, err.is_terminal());
-            let mut teller = Teller::new(err, detail);
-            open_claim(alloc, file.as_str(), claim, files, out, &mut teller)
+            teller.detail = Detail::of(file.as_str(), *verbose, *format, is_terminal);
+            open_claim(alloc, file.as_str(), claim, files, out, teller)
         }
         Request::Compare {
             file,
@@ -110,10 +111,10 @@ pub fn serve_files<
             format,
             comparison,
         } => {
-            let detail = Detail::of(file.as_str(), *verbose, *format, err.is_terminal());
-            let mut timed = Timed::new(err, rt, comparison.time);
-            let mut teller = Teller::new(&mut timed, detail);
-            open_comparison(alloc, file.as_str(), comparison, files, out, &mut teller)
+            teller.detail = Detail::of(file.as_str(), *verbose, *format, is_terminal);
+            let timed = Timed::new(&mut teller.err, rt, comparison.time);
+            let mut slow = Teller::new(timed, teller.detail);
+            open_comparison(alloc, file.as_str(), comparison, files, out, &mut slow)
         }
         Request::Ask {
             file,
@@ -121,10 +122,10 @@ pub fn serve_files<
             format,
             questions,
         } => {
-            let detail = Detail::of(file.as_str(), *verbose, *format, err.is_terminal());
-            let mut timed = Timed::new(err, rt, questions.time);
-            let mut teller = Teller::new(&mut timed, detail);
-            open_asked(alloc, file.as_str(), questions, files, out, &mut teller)
+            teller.detail = Detail::of(file.as_str(), *verbose, *format, is_terminal);
+            let timed = Timed::new(&mut teller.err, rt, questions.time);
+            let mut slow = Teller::new(timed, teller.detail);
+            open_asked(alloc, file.as_str(), questions, files, out, &mut slow)
         }
         Request::Cover {
             file,
@@ -132,10 +133,10 @@ pub fn serve_files<
             format,
             coverage,
         } => {
-            let detail = Detail::of(file.as_str(), *verbose, *format, err.is_terminal());
-            let mut timed = Timed::new(err, rt, None);
-            let mut teller = Teller::new(&mut timed, detail);
-            open_covered(alloc, file.as_str(), coverage, files, out, &mut teller)
+            teller.detail = Detail::of(file.as_str(), *verbose, *format, is_terminal);
+            let timed = Timed::new(&mut teller.err, rt, None);
+            let mut slow = Teller::new(timed, teller.detail);
+            open_covered(alloc, file.as_str(), coverage, files, out, &mut slow)
         }
         Request::Fair {
             file,
@@ -143,18 +144,23 @@ pub fn serve_files<
             format,
             search,
         } => {
-            let detail = Detail::of(file.as_str(), *verbose, *format, err.is_terminal());
-            let mut timed = Timed::new(err, rt, search.time);
-            let mut teller = Teller::new(&mut timed, detail);
-            open_fair(alloc, file.as_str(), search, files, out, &mut teller)
+            teller.detail = Detail::of(file.as_str(), *verbose, *format, is_terminal);
+            let timed = Timed::new(&mut teller.err, rt, search.time);
+            let mut slow = Teller::new(timed, teller.detail);
+            open_fair(alloc, file.as_str(), search, files, out, &mut slow)
         }
-        Request::Explain { number } => explain(*number, out, err),
-        Request::ExplainEnd { word, number } => explain_end(word.as_str(), *number, out, err),
+        Request::Explain { number } => explain(*number, out, &mut teller.err),
+        Request::ExplainEnd { word, number } => explain_end(
+            word.as_str(),
+            *number,
+            out,
+            &mut teller.err,
+        ),
     }
 }
 
 /// Opens the source, and then answers the request.
-fn open_source<H: Threads + Wait + Sync, F: Files, W: Write, E: Write + Send>(
+fn open_source<H: Threads + Wait + Sync, F: Files, W: Write, E: Tell + Send>(
     rt: &H,
     alloc: Global,
     file: &str,
@@ -163,8 +169,10 @@ fn open_source<H: Threads + Wait + Sync, F: Files, W: Write, E: Write + Send>(
     out: &mut W,
     teller: &mut Teller<'_, E>,
 ) -> u8
-    ensures { ServesTask task.now (schedule_in (F.contents files.now) (schedule_of task.now))
+    ensures serves { ServesTask task.now (schedule_in (F.contents files.now) (schedule_of task.now))
         (F.contents files.now file.now) result (W.contents out.old) (W.contents out.new) }
+    ensures told { result ≡ 1 → IfSome (F.contents files.now file.now) (λ bytes. TellsRefusal task.now
+        teller.old.detail.format bytes (E.contents teller.old.err) (E.contents teller.new.err)) }
 {
     match files.open(file) {
         Ok(source) => open_schedule(rt, alloc, task, source, files, out, teller),
@@ -173,7 +181,7 @@ fn open_source<H: Threads + Wait + Sync, F: Files, W: Write, E: Write + Send>(
 }
 
 /// Opens the schedule that a task names, if it names one, and then answers the request.
-fn open_schedule<H: Threads + Wait + Sync, F: Files, R: Read + Drop, W: Write, E: Write + Send>(
+fn open_schedule<H: Threads + Wait + Sync, F: Files, R: Read + Drop, W: Write, E: Tell + Send>(
     rt: &H,
     alloc: Global,
     task: &Task,
@@ -182,8 +190,10 @@ fn open_schedule<H: Threads + Wait + Sync, F: Files, R: Read + Drop, W: Write, E
     out: &mut W,
     teller: &mut Teller<'_, E>,
 ) -> u8
-    ensures { ServesTask task.now (schedule_in (F.contents files.now) (schedule_of task.now))
+    ensures serves { ServesTask task.now (schedule_in (F.contents files.now) (schedule_of task.now))
         (R.remaining source) result (W.contents out.old) (W.contents out.new) }
+    ensures told { result ≡ 1 → IfSome (R.remaining source) (λ bytes. TellsRefusal task.now
+        teller.old.detail.format bytes (E.contents teller.old.err) (E.contents teller.new.err)) }
 {
     match schedule_of(task) {
         Some(name) => match files.open(name) {
@@ -216,7 +226,7 @@ pub fn schedule_of(task: &Task) -> Option<&str>
 }
 
 /// Reads a source. The error is the exit status, and the reason is reported on standard error.
-pub(crate) fn text_of<A: Allocator + Copy, R: Read + Drop, E: Write>(
+pub(crate) fn text_of<A: Allocator + Copy, R: Read + Drop, E: Tell>(
     alloc: A,
     source: R,
     teller: &mut Teller<'_, E>,
@@ -224,6 +234,10 @@ pub(crate) fn text_of<A: Allocator + Copy, R: Read + Drop, E: Write>(
     ensures ok { IfOk result (λ s. IfSome (R.remaining source) (λ bytes. string_bytes s ≡ bytes)) }
     ensures status { IfErr result (λ s. (s ≡ 1) × IfSome (R.remaining source) (λ bytes. IsRefused bytes) ⊎ (s ≡ 2)
         ⊎ (s ≡ 4)) }
+    ensures format { OnOk result (teller.new.detail.format ≡ teller.old.detail.format) }
+    ensures kept { OnOk result (E.contents teller.new.err ≡ E.contents teller.old.err) }
+    ensures told { IfErr result (λ s. s ≡ 1 → IfSome (R.remaining source) (λ bytes. TellsPlain IsFaultOfSource
+        teller.old.detail.format bytes (E.contents teller.old.err) (E.contents teller.new.err))) }
 {
     match read_source(alloc, source) {
         Ok(SourceText::Text(text)) => Ok(text),
@@ -293,7 +307,7 @@ fn read_text<A: Allocator, R: Read + Drop>(alloc: A, mut reader: R) -> io::Resul
 }
 
 /// The lines of a schedule, a seed or an order. The error is the exit status, and the reason is reported.
-pub(crate) fn lines_of<A: Allocator + Copy, S: Read + Drop, E: Write>(
+pub(crate) fn lines_of<A: Allocator + Copy, S: Read + Drop, E: Tell>(
     alloc: A,
     code: &Code<A>,
     threads: u32,
@@ -312,7 +326,7 @@ pub(crate) fn lines_of<A: Allocator + Copy, S: Read + Drop, E: Write>(
 }
 
 /// The lines of an order of whole transactions.
-pub(crate) fn lines_in_order<A: Allocator + Copy, E: Write>(
+pub(crate) fn lines_in_order<A: Allocator + Copy, E: Tell>(
     alloc: A,
     code: &Code<A>,
     threads: u32,
@@ -324,8 +338,14 @@ pub(crate) fn lines_in_order<A: Allocator + Copy, E: Write>(
 {
     match turns(alloc, code, threads, order) {
         Ok(found) => Ok(found),
-        Err(TurnsFault::OutOfMemory) => Err(refuse_replay(WorldFault::OutOfMemory, teller.err)),
-        Err(TurnsFault::WrongThreads) => Err(refuse_replay(WorldFault::WrongThreads, teller.err)),
+        Err(TurnsFault::OutOfMemory) => Err(refuse_replay(
+            WorldFault::OutOfMemory,
+            &mut teller.err,
+        )),
+        Err(TurnsFault::WrongThreads) => Err(refuse_replay(
+            WorldFault::WrongThreads,
+            &mut teller.err,
+        )),
         Err(TurnsFault::Stranger) => Err(teller.refuse_order(MeaningFault::Stranger)),
         Err(TurnsFault::TooLong) => Err(teller.refuse_schedule(alloc, "", ScheduleFault::TooLong)),
     }
@@ -342,7 +362,7 @@ pub(crate) fn lines_if_any<A: Allocator + Copy>(
 }
 
 /// The lines of a schedule.
-fn lines_read<A: Allocator + Copy, S: Read + Drop, E: Write>(
+fn lines_read<A: Allocator + Copy, S: Read + Drop, E: Tell>(
     alloc: A,
     file: &str,
     schedule: S,
@@ -362,7 +382,7 @@ fn lines_read<A: Allocator + Copy, S: Read + Drop, E: Write>(
 }
 
 /// The lines of a seed.
-pub(crate) fn lines_picked<A: Allocator + Copy, E: Write>(
+pub(crate) fn lines_picked<A: Allocator + Copy, E: Tell>(
     alloc: A,
     seed: u32,
     threads: u32,
@@ -374,7 +394,7 @@ pub(crate) fn lines_picked<A: Allocator + Copy, E: Write>(
     ensures status { IfErr result (λ s. (s ≡ 2) ⊎ (s ≡ 4)) }
 {
     if threads == 0 {
-        return Err(refuse_replay(WorldFault::WrongThreads, teller.err));
+        return Err(refuse_replay(WorldFault::WrongThreads, &mut teller.err));
     }
     match seeded(alloc, u64::from(seed), threads, count) {
         Ok(found) => Ok(found),

@@ -8,6 +8,7 @@ use crate::reasons::Reason;
 use crate::source::order_accepted;
 use crate::tell::Teller;
 use crate::walked::OutcomesFound;
+use fault_lines::Tell;
 use lex::token::Span;
 use report::{End, Finding, Property, ReportedOrder, ThreadShown, WalkEnd};
 use separation::Accepted;
@@ -17,7 +18,7 @@ use std::io::Write;
 /// If lines are wanted, reports where threads trapped in outcomes, and where they wait in stuck orders. It covers each
 /// order that shows a place not reported before, and runs these orders once more. If a search was stopped, it reports
 /// which option lets the search continue.
-pub(crate) fn tell_listed_ends<A: Allocator + Copy, E: Write>(
+pub(crate) fn tell_listed_ends<A: Allocator + Copy, E: Tell>(
     alloc: A,
     text: &str,
     threads: u32,
@@ -31,19 +32,38 @@ pub(crate) fn tell_listed_ends<A: Allocator + Copy, E: Write>(
         let mut shown = Vec::new(alloc);
         let (outcomes, stuck) = (found.outcomes.as_slice(), found.stuck.as_slice());
         tell_orders(
-            alloc, text, &accepted, threads, outcomes, &mut shown, teller.err,
+            alloc,
+            text,
+            &accepted,
+            threads,
+            outcomes,
+            &mut shown,
+            &mut teller.err,
         );
         tell_orders(
-            alloc, text, &accepted, threads, stuck, &mut shown, teller.err,
+            alloc,
+            text,
+            &accepted,
+            threads,
+            stuck,
+            &mut shown,
+            &mut teller.err,
         );
-        tell_reason(alloc, text, &accepted, threads, &found.reason, teller.err);
+        tell_reason(
+            alloc,
+            text,
+            &accepted,
+            threads,
+            &found.reason,
+            &mut teller.err,
+        );
     }
-    tell_stop(found.end, teller.err);
+    tell_stop(found.end, &mut teller.err);
 }
 
 /// If lines are wanted, reports where threads wait in the stuck orders of a search for properties, as after a list.
 /// If the search was stopped, it also reports which option lets it continue.
-pub(crate) fn tell_asked_ends<A: Allocator + Copy, E: Write>(
+pub(crate) fn tell_asked_ends<A: Allocator + Copy, E: Tell>(
     alloc: A,
     text: &str,
     accepted: &Accepted<A>,
@@ -57,7 +77,13 @@ pub(crate) fn tell_asked_ends<A: Allocator + Copy, E: Write>(
     let mut shown = Vec::new(alloc);
     let stuck = found.stuck.as_slice();
     tell_orders(
-        alloc, text, accepted, threads, stuck, &mut shown, teller.err,
+        alloc,
+        text,
+        accepted,
+        threads,
+        stuck,
+        &mut shown,
+        &mut teller.err,
     );
     if found.is_answered {
         let _ = writeln!(
@@ -65,9 +91,16 @@ pub(crate) fn tell_asked_ends<A: Allocator + Copy, E: Write>(
             "txc: each property has its answer, so the search stopped; --keep-going continues it"
         );
     } else if found.end != WalkEnd::Whole {
-        tell_answered(found.properties.as_slice(), teller.err);
-        tell_reason(alloc, text, accepted, threads, &found.reason, teller.err);
-        tell_stop(found.end, teller.err);
+        tell_answered(found.properties.as_slice(), &mut teller.err);
+        tell_reason(
+            alloc,
+            text,
+            accepted,
+            threads,
+            &found.reason,
+            &mut teller.err,
+        );
+        tell_stop(found.end, &mut teller.err);
     }
 }
 
@@ -80,7 +113,7 @@ fn is_answered<A: Allocator>(one: &Property<A>) -> bool {
 }
 
 /// Reports which properties have an answer and which have none, if some have one.
-fn tell_answered<A: Allocator, E: Write>(properties: &[Property<A>], err: &mut E) {
+fn tell_answered<A: Allocator, E: Tell>(properties: &[Property<A>], err: &mut E) {
     if properties.iter().any(|one| is_answered(one)) {
         tell_names(b"txc: answered: ", properties, true, err);
         tell_names(b"txc: not answered: ", properties, false, err);
@@ -88,7 +121,7 @@ fn tell_answered<A: Allocator, E: Write>(properties: &[Property<A>], err: &mut E
 }
 
 /// Reports the names of the properties that have an answer, or of those that have none, after these words.
-fn tell_names<A: Allocator, E: Write>(
+fn tell_names<A: Allocator, E: Tell>(
     words: &[u8],
     properties: &[Property<A>],
     have_answer: bool,
@@ -111,7 +144,7 @@ fn tell_names<A: Allocator, E: Write>(
 const LONG_TICKS: u64 = 1000000;
 
 /// Reports why a search stopped.
-fn tell_reason<A: Allocator + Copy, E: Write>(
+fn tell_reason<A: Allocator + Copy, E: Tell>(
     alloc: A,
     text: &str,
     accepted: &Accepted<A>,
@@ -140,7 +173,7 @@ fn tell_reason<A: Allocator + Copy, E: Write>(
 }
 
 /// Reports which option lets a stopped search continue.
-pub(crate) fn tell_stop<E: Write>(end: WalkEnd, err: &mut E) {
+pub(crate) fn tell_stop<E: Tell>(end: WalkEnd, err: &mut E) {
     let words = match end {
         WalkEnd::Whole => return,
         WalkEnd::AtLimit => "--limit L is how many states it looks at",
@@ -153,7 +186,7 @@ pub(crate) fn tell_stop<E: Write>(end: WalkEnd, err: &mut E) {
 }
 
 /// Reports for each of these orders where its threads trapped or wait.
-fn tell_orders<A: Allocator + Copy, E: Write>(
+fn tell_orders<A: Allocator + Copy, E: Tell>(
     alloc: A,
     text: &str,
     accepted: &Accepted<A>,
@@ -180,7 +213,7 @@ fn have_all_ended<A: Allocator>(threads: &[ThreadShown<A>]) -> bool {
 }
 
 /// Reports where the threads of an order trapped or wait, if one is at a place that has not been shown yet.
-fn tell_order<A: Allocator + Copy, E: Write>(
+fn tell_order<A: Allocator + Copy, E: Tell>(
     alloc: A,
     text: &str,
     accepted: &Accepted<A>,
@@ -200,7 +233,7 @@ fn tell_order<A: Allocator + Copy, E: Write>(
 }
 
 /// Names the order that the next report is about, as a word of a command line.
-pub(crate) fn write_order<E: Write>(order: &[u32], err: &mut E) {
+pub(crate) fn write_order<E: Tell>(order: &[u32], err: &mut E) {
     let _ = err.write_all(b"txc: with --order ");
     if order.is_empty() {
         let _ = err.write_all(b"''");

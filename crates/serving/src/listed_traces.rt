@@ -7,12 +7,12 @@ use crate::properties::PropertiesFound;
 use crate::tell::Teller;
 use crate::trace::tell_trace;
 use crate::walked::OutcomesFound;
+use fault_lines::Tell;
 use report::{Finding, ReportedOrder};
 use std::alloc::Allocator;
-use std::io::Write;
 
 /// Reports the trace of the first of these orders.
-fn tell_first<A: Allocator + Copy, E: Write>(
+fn tell_first<A: Allocator + Copy, E: Tell>(
     alloc: A,
     text: &str,
     compiled: &Compiled<A>,
@@ -27,7 +27,7 @@ fn tell_first<A: Allocator + Copy, E: Write>(
 }
 
 /// Reports the trace of the first of these outcomes in which a thread traps.
-fn tell_first_trapped<A: Allocator + Copy, E: Write>(
+fn tell_first_trapped<A: Allocator + Copy, E: Tell>(
     alloc: A,
     text: &str,
     compiled: &Compiled<A>,
@@ -46,7 +46,7 @@ fn tell_first_trapped<A: Allocator + Copy, E: Write>(
 
 /// If traces are wanted, reports those of the first listed outcome in which a thread traps, and of the first stuck
 /// order.
-pub(crate) fn tell_listed_traces<A: Allocator + Copy, E: Write>(
+pub(crate) fn tell_listed_traces<A: Allocator + Copy, E: Tell>(
     alloc: A,
     text: &str,
     compiled: &Compiled<A>,
@@ -58,12 +58,12 @@ pub(crate) fn tell_listed_traces<A: Allocator + Copy, E: Write>(
         return;
     }
     let (outcomes, stuck) = (found.outcomes.as_slice(), found.stuck.as_slice());
-    tell_first_trapped(alloc, text, compiled, threads, outcomes, teller.err);
-    tell_first(alloc, text, compiled, threads, stuck, teller.err);
+    tell_first_trapped(alloc, text, compiled, threads, outcomes, &mut teller.err);
+    tell_first(alloc, text, compiled, threads, stuck, &mut teller.err);
 }
 
 /// If traces are wanted, reports those of the first order after which a property fails, and of the first stuck order.
-pub(crate) fn tell_asked_traces<A: Allocator + Copy, E: Write>(
+pub(crate) fn tell_asked_traces<A: Allocator + Copy, E: Tell>(
     alloc: A,
     text: &str,
     compiled: &Compiled<A>,
@@ -75,13 +75,13 @@ pub(crate) fn tell_asked_traces<A: Allocator + Copy, E: Write>(
     if !teller.detail.traces && !are_wanted {
         return;
     }
-    tell_first_failure(alloc, text, compiled, threads, found, teller.err);
+    tell_first_failure(alloc, text, compiled, threads, found, &mut teller.err);
     let stuck = found.stuck.as_slice();
-    tell_first(alloc, text, compiled, threads, stuck, teller.err);
+    tell_first(alloc, text, compiled, threads, stuck, &mut teller.err);
 }
 
 /// Reports the trace of the first order after which a property fails.
-fn tell_first_failure<A: Allocator + Copy, E: Write>(
+fn tell_first_failure<A: Allocator + Copy, E: Tell>(
     alloc: A,
     text: &str,
     compiled: &Compiled<A>,

@@ -9,11 +9,12 @@ use crate::print::print_text;
 use crate::program::{SourceFault, compile};
 use crate::tell::Teller;
 use bytecode::listing;
+use fault_lines::Tell;
 use std::alloc::Allocator;
 use std::io::Write;
 
 /// Lists the code of a source.
-pub(crate) fn list<A: Allocator + Copy, W: Write, E: Write>(
+pub(crate) fn list<A: Allocator + Copy, W: Write, E: Tell>(
     alloc: A,
     text: &str,
     out: &mut W,
@@ -23,7 +24,7 @@ pub(crate) fn list<A: Allocator + Copy, W: Write, E: Write>(
         (W.contents out.old) (W.contents out.new) }
 {
     match list_source(alloc, text) {
-        Ok(listed) => print_text(listed.as_str().as_bytes(), out, teller.err),
+        Ok(listed) => print_text(listed.as_str().as_bytes(), out, &mut teller.err),
         Err(fault) => teller.refuse(alloc, text, fault),
     }
 }

@@ -1,13 +1,15 @@
 //! Numbers in place of names of sources.
 
-ghost use Rattle.std.specs.Prelude.{◌≡◌, ◌≢◌, ◌≤◌, ◌⊎◌, [], IfErr, IfOk, IfSome, None, Some, option_map, true};
+ghost use Rattle.std.specs.Prelude.{◌≡◌, ◌≢◌, ◌≤◌, ◌⊎◌, [], IfErr, IfOk, IfSome, None, OnOk, Some, option_map, true};
 ghost use Rattle.serving.specs.Numbers.{IsWithNumbers, IsUsedInSource, ServesAsked, other_of, read_of, sources_of};
+ghost use Rattle.serving.specs.Told.{TellsAsked};
 ghost use Rattle.serving.specs.inner.Numbers.{AreUsedIn, contents_with, rest_of};
 
 use crate::files::{Files, read_bytes, serve_files};
 use crate::print::UNUSABLE;
 use crate::tell::{Detail, Teller, out_of_memory};
 use command::{Against, Asked, Format, Request};
+use fault_lines::Tell;
 use messages::write_shown;
 use parameters::{Definition, put_in, uses};
 use std::alloc::{AllocError, Global};
@@ -115,7 +117,6 @@ impl<R: Read> Read for Opened<'_, R> {
 #[derive(Drop)]
 pub(crate) struct Numbered<'a, F> {
     files: &'a F,
-    definitions: &'a [Definition],
     file: &'a str,
     bytes: &'a [u8],
     other: &'a str,
@@ -139,15 +140,11 @@ impl<'a, F: Files> Files for Numbered<'a, F> {
             Err(error) => Err(error),
         }
     }
-
-    fn definitions(&self) -> &[Definition] {
-        self.definitions
-    }
 }
 
 /// The bytes read from a source: all of them, or one more than the size limit. The error is the exit status, and the
 /// reason is reported on standard error.
-fn source_read<F: Files, E: Write>(
+fn source_read<F: Files, E: Tell>(
     alloc: Global,
     files: &F,
     name: &str,
@@ -155,6 +152,7 @@ fn source_read<F: Files, E: Write>(
 ) -> Result<Vec<u8>, u8>
     ensures read { IfOk result (λ v. IfSome (F.contents files.now name.now) (λ bytes. v.items ≡ read_of bytes)) }
     ensures status { IfErr result (λ s. (s ≡ 2) ⊎ (s ≡ 4)) }
+    ensures kept { OnOk result (E.contents teller.new.err ≡ E.contents teller.old.err) }
 {
     match files.open(name) {
         Ok(file) => match read_bytes(alloc, file) {
@@ -257,6 +255,7 @@ fn both_numbered<E: Write>(
     ensures first { IfOk result (λ x. IsWithNumbers definitions.now bytes.now x.0.items) }
     ensures second { IfOk result (λ x. IsWithNumbers definitions.now other.now x.1.items) }
     ensures status { IfErr result (λ s. (s ≡ 2) ⊎ (s ≡ 4)) }
+    ensures kept { OnOk result (E.contents err.new ≡ E.contents err.old) }
 {
     match first_unused(alloc, definitions, bytes, other) {
         Ok(None) => match (
@@ -272,15 +271,21 @@ fn both_numbered<E: Write>(
 }
 
 /// Answers a request over sources that were read, with numbers in place of their names.
-fn serve_read<H: Threads + Wait + Clock + Sync, F: Files, W: Write, E: Write + IsTerminal + Send>(
+fn serve_read<
+    'r,
+    H: Threads + Wait + Clock + Sync,
+    F: Files,
+    W: Write,
+    E: Tell + IsTerminal + Send,
+>(
     rt: &H,
     alloc: Global,
-    asked: &Asked,
+    asked: &'r Asked,
     files: &F,
     sources: &Sources<'_>,
     read: (&[u8], &[u8]),
     out: &mut W,
-    err: &mut E,
+    teller: &mut Teller<'r, E>,
 ) -> u8
     requires defined { asked.now.definitions.items ≢ [] }
     requires sources { sources_of asked.now.request ≡ Some (sources.now.file.now, sources.now.other.now) }
@@ -288,20 +293,28 @@ fn serve_read<H: Threads + Wait + Clock + Sync, F: Files, W: Write, E: Write + I
     requires other { IfSome (F.contents files.now sources.now.other.now) (λ bytes. read.1.now ≡ read_of bytes) }
     ensures status { result ≤ 5 }
     ensures answer { ServesAsked asked.now (F.contents files.now) result (W.contents out.old) (W.contents out.new) }
+    ensures told { result ≡ 1 → TellsAsked asked.now (F.contents files.now) (E.contents teller.old.err)
+        (E.contents teller.new.err) }
 {
     let (bytes, other) = read;
     let definitions = asked.definitions.as_slice();
-    match both_numbered(alloc, definitions, sources.file, bytes, other, err) {
+    match both_numbered(
+        alloc,
+        definitions,
+        sources.file,
+        bytes,
+        other,
+        &mut teller.err,
+    ) {
         Ok((bytes, other)) => {
             let numbered = Numbered {
                 files,
-                definitions,
                 file: sources.file,
                 bytes: bytes.as_slice(),
                 other: sources.other,
                 other_bytes: other.as_slice(),
             };
-            serve_files(rt, alloc, &asked.request, &numbered, out, err)
+            serve_files(rt, alloc, &asked.request, &numbered, out, teller)
         }
         Err(status) => status,
     }
@@ -309,63 +322,70 @@ fn serve_read<H: Threads + Wait + Clock + Sync, F: Files, W: Write, E: Write + I
 
 /// Reads the sources, and then answers the request with numbers in place of their names.
 fn serve_sources<
+    'r,
     H: Threads + Wait + Clock + Sync,
     F: Files,
     W: Write,
-    E: Write + IsTerminal + Send,
+    E: Tell + IsTerminal + Send,
 >(
     rt: &H,
     alloc: Global,
-    asked: &Asked,
+    asked: &'r Asked,
     files: &F,
-    sources: &Sources<'_>,
+    sources: &Sources<'r>,
     out: &mut W,
-    err: &mut E,
+    teller: &mut Teller<'r, E>,
 ) -> u8
     requires defined { asked.now.definitions.items ≢ [] }
     requires sources { sources_of asked.now.request ≡ Some (sources.now.file.now, sources.now.other.now) }
     ensures status { result ≤ 5 }
     ensures answer { ServesAsked asked.now (F.contents files.now) result (W.contents out.old) (W.contents out.new) }
+    ensures told { result ≡ 1 → TellsAsked asked.now (F.contents files.now) (E.contents teller.old.err)
+        (E.contents teller.new.err) }
 {
-    let detail = Detail::of(
+    teller.detail = Detail::of(
         sources.file,
         sources.verbose,
         sources.format,
-        err.is_terminal(),
+        teller.err.is_terminal(),
     );
-    let bytes = match source_read(alloc, files, sources.file, &mut Teller::new(err, detail)) {
+    teller.detail.definitions = asked.definitions.as_slice();
+    let bytes = match source_read(alloc, files, sources.file, teller) {
         Ok(bytes) => bytes,
         Err(status) => return status,
     };
     if sources.other == sources.file {
         let read = (bytes.as_slice(), bytes.as_slice());
-        return serve_read(rt, alloc, asked, files, sources, read, out, err);
+        return serve_read(rt, alloc, asked, files, sources, read, out, teller);
     }
-    match source_read(alloc, files, sources.other, &mut Teller::new(err, detail)) {
+    match source_read(alloc, files, sources.other, teller) {
         Ok(other) => {
             let read = (bytes.as_slice(), other.as_slice());
-            serve_read(rt, alloc, asked, files, sources, read, out, err)
+            serve_read(rt, alloc, asked, files, sources, read, out, teller)
         }
         Err(status) => status,
     }
 }
 
 /// Answers a request over files and two writers, with numbers in place of names of sources, as `serve_files` does, and
-/// returns the exit status. The sources are read first if a name is defined.
+/// returns the exit status. The sources are read first if a name is defined. The request replaces the teller's detail.
 pub fn serve_asked<
+    'r,
     H: Threads + Wait + Clock + Sync,
     F: Files,
     W: Write,
-    E: Write + IsTerminal + Send,
->(rt: &H, alloc: Global, asked: &Asked, files: &F, out: &mut W, err: &mut E) -> u8
+    E: Tell + IsTerminal + Send,
+>(rt: &H, alloc: Global, asked: &'r Asked, files: &F, out: &mut W, teller: &mut Teller<'r, E>) -> u8
     ensures status { result ≤ 5 }
     ensures answer { ServesAsked asked.now (F.contents files.now) result (W.contents out.old) (W.contents out.new) }
+    ensures told { result ≡ 1 → TellsAsked asked.now (F.contents files.now) (E.contents teller.old.err)
+        (E.contents teller.new.err) }
 {
     if asked.definitions.is_empty() {
-        return serve_files(rt, alloc, &asked.request, files, out, err);
+        return serve_files(rt, alloc, &asked.request, files, out, teller);
     }
     match sources_of(&asked.request) {
-        Some(sources) => serve_sources(rt, alloc, asked, files, &sources, out, err),
-        None => sourceless(err),
+        Some(sources) => serve_sources(rt, alloc, asked, files, &sources, out, teller),
+        None => sourceless(&mut teller.err),
     }
 }

@@ -13,13 +13,14 @@ use crate::program::{Compiled, unit_of};
 use crate::replays::{Replayed, print_for_replay, replay_text};
 use crate::tell::{Teller, out_of_memory};
 use command::Steps;
+use fault_lines::Tell;
 use picture::replay_picture;
 use std::alloc::Allocator;
 use std::io::{Read, Write};
 use world::StopReason;
 
 /// Replays steps of a source's threads, and draws them, starting at an access.
-pub(crate) fn draw<A: Allocator + Copy, S: Read + Drop, W: Write, E: Write>(
+pub(crate) fn draw<A: Allocator + Copy, S: Read + Drop, W: Write, E: Tell>(
     alloc: A,
     text: &str,
     threads: u32,
@@ -75,7 +76,7 @@ fn picture_of<A: Allocator + Copy>(
 }
 
 /// Prints the picture of a replay. Returns the exit status as `print_for_replay` does.
-fn print_picture<A: Allocator + Copy, W: Write, E: Write>(
+fn print_picture<A: Allocator + Copy, W: Write, E: Tell>(
     alloc: A,
     text: &str,
     compiled: &Compiled<A>,
@@ -97,6 +98,6 @@ fn print_picture<A: Allocator + Copy, W: Write, E: Write>(
     let file = teller.detail.file;
     match picture_of(alloc, file, text, compiled, threads, from, replayed) {
         Some(svg) => print_for_replay(svg.as_slice(), replayed, out, teller),
-        None => out_of_memory(teller.err),
+        None => out_of_memory(&mut teller.err),
     }
 }

@@ -115,7 +115,7 @@ fn some_seen_trapped(threads: &[ThreadSeen<'_>]) -> bool
 }
 
 /// Writes a text, as `write_all` does. If that fails, a beginning of the text has been written.
-fn write_text<W: Write>(text: &[u8], out: &mut W) -> io::Result<()>
+pub fn write_text<W: Write>(text: &[u8], out: &mut W) -> io::Result<()>
     ensures whole { OnOk result (Appends (W.contents out.old) (W.contents out.new) text.now) }
     ensures part { AppendsBeginning (W.contents out.old) (W.contents out.new) text.now }
 {

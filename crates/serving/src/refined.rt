@@ -21,6 +21,7 @@ use crate::request::bytes_of_memory;
 use crate::tell::{Teller, cannot_write, out_of_memory};
 use crate::walked::{OutcomesFound, outcomes_in};
 use command::Format;
+use fault_lines::Tell;
 use messages::write_shown;
 use refinements::{beyond_text, first_beyond, refined_text};
 use report::ReportedOrder;
@@ -29,7 +30,7 @@ use std::io::{Read, Write};
 
 /// Reports whether each outcome of a source's text is one of the program in a file, which is read next. It tries one
 /// number of threads after another, from that of the limits to the last, up to the first whose status is not 0.
-pub(crate) fn refine<A: Allocator + Copy, Q: Read + Drop, W: Write, E: Write>(
+pub(crate) fn refine<A: Allocator + Copy, Q: Read + Drop, W: Write, E: Tell>(
     alloc: A,
     limits: Limits,
     last: u32,
@@ -43,7 +44,7 @@ pub(crate) fn refine<A: Allocator + Copy, Q: Read + Drop, W: Write, E: Write>(
         (HasNoCode text.now ⊎ IfSome (Q.remaining other) (λ bytes. HasNoCode bytes)) (last - limits.threads)
         limits.threads (Q.remaining other) result (W.contents out.old) (W.contents out.new) }
 {
-    let mut told = Teller::new(teller.err, teller.detail.of_file(name));
+    let mut told = Teller::new(&mut teller.err, teller.detail.of_file(name));
     match text_of(alloc, other, &mut told) {
         Ok(other) => refine_text(alloc, limits, last, text, name, other.as_str(), out, teller),
         Err(status) => tell_whose(status, name, teller),
@@ -51,7 +52,7 @@ pub(crate) fn refine<A: Allocator + Copy, Q: Read + Drop, W: Write, E: Write>(
 }
 
 /// Reports whether each outcome of a source's text is one of the other's.
-fn refine_text<A: Allocator + Copy, W: Write, E: Write>(
+fn refine_text<A: Allocator + Copy, W: Write, E: Tell>(
     alloc: A,
     limits: Limits,
     last: u32,
@@ -75,7 +76,7 @@ fn refine_text<A: Allocator + Copy, W: Write, E: Write>(
 }
 
 /// Reports why the other source is refused, and names its file.
-fn refuse_other<A: Allocator + Copy, E: Write>(
+fn refuse_other<A: Allocator + Copy, E: Tell>(
     alloc: A,
     text: &str,
     fault: SourceFault,
@@ -86,13 +87,13 @@ fn refuse_other<A: Allocator + Copy, E: Write>(
     ensures not_ended { result ≢ 0 }
     ensures refused { result ≡ 1 → is_some (span_of_source fault) ≡ true }
 {
-    let mut told = Teller::new(teller.err, teller.detail.of_file(name));
+    let mut told = Teller::new(&mut teller.err, teller.detail.of_file(name));
     let status = told.refuse(alloc, text, fault);
     tell_whose(status, name, teller)
 }
 
 /// Reports whether each outcome of a program is one of another's, for one number of threads after another.
-fn refine_in_turn<A: Allocator + Copy, W: Write, E: Write>(
+fn refine_in_turn<A: Allocator + Copy, W: Write, E: Tell>(
     alloc: A,
     limits: Limits,
     last: u32,
@@ -121,7 +122,7 @@ fn refine_in_turn<A: Allocator + Copy, W: Write, E: Write>(
 }
 
 /// Reports whether each outcome of a program is one of another's.
-fn refine_programs<A: Allocator + Copy, W: Write, E: Write>(
+fn refine_programs<A: Allocator + Copy, W: Write, E: Tell>(
     alloc: A,
     limits: Limits,
     this: &Compiled<A>,
@@ -147,7 +148,7 @@ fn refine_programs<A: Allocator + Copy, W: Write, E: Write>(
 }
 
 /// The outcomes of a program. The error is the exit status, and the reason is reported on standard error.
-pub(crate) fn outcomes_found<A: Allocator + Copy, E: Write>(
+pub(crate) fn outcomes_found<A: Allocator + Copy, E: Tell>(
     alloc: A,
     limits: Limits,
     compiled: &Compiled<A>,
@@ -175,7 +176,7 @@ pub(crate) fn outcomes_found<A: Allocator + Copy, E: Write>(
 }
 
 /// Reports whether each of these outcomes is one of the others, if both are all outcomes.
-fn tell_found<A: Allocator + Copy, W: Write, E: Write>(
+fn tell_found<A: Allocator + Copy, W: Write, E: Tell>(
     alloc: A,
     threads: u32,
     found: &OutcomesFound<A>,
@@ -197,9 +198,9 @@ fn tell_found<A: Allocator + Copy, W: Write, E: Write>(
         return tell_stopped(name, "", others.end, teller);
     }
     match first_beyond(alloc, found.outcomes.as_slice(), others.outcomes.as_slice()) {
-        Ok(Some(one)) => tell_beyond(alloc, name, one, out, teller.err),
+        Ok(Some(one)) => tell_beyond(alloc, name, one, out, &mut teller.err),
         Ok(None) => tell_refined(alloc, threads, found, name, others, out, teller),
-        Err(_) => out_of_memory(teller.err),
+        Err(_) => out_of_memory(&mut teller.err),
     }
 }
 
@@ -224,7 +225,7 @@ fn tell_beyond<A: Allocator + Copy, W: Write, E: Write>(
 }
 
 /// Reports that each outcome is one of the others, unless an order is stuck.
-fn tell_refined<A: Allocator + Copy, W: Write, E: Write>(
+fn tell_refined<A: Allocator + Copy, W: Write, E: Tell>(
     alloc: A,
     threads: u32,
     found: &OutcomesFound<A>,
@@ -248,33 +249,33 @@ fn tell_refined<A: Allocator + Copy, W: Write, E: Write>(
         others.outcomes.len() as u64,
         threads,
     ) {
-        Ok(text) => print_text(text.as_slice(), out, teller.err),
-        Err(_) => out_of_memory(teller.err),
+        Ok(text) => print_text(text.as_slice(), out, &mut teller.err),
+        Err(_) => out_of_memory(&mut teller.err),
     }
 }
 
 /// Names the file of the fault that was just reported, if its report does not name it. Returns the exit status.
-fn tell_whose<E: Write>(status: u8, name: &str, teller: &mut Teller<'_, E>) -> u8
+fn tell_whose<E: Tell>(status: u8, name: &str, teller: &mut Teller<'_, E>) -> u8
     ensures { result ≡ status }
 {
     if status == REFUSED && teller.detail.format == Format::Plain {
         let _ = teller.err.write_all(b"txc: that is of ");
-        let _ = write_shown(name, "", teller.err);
+        let _ = write_shown(name, "", &mut teller.err);
         let _ = teller.err.write_all(b"\n");
     }
     status
 }
 
 /// Reports that some order of the source is stuck, and shows the first one if lines are wanted.
-fn tell_stuck<A: Allocator, E: Write>(found: &OutcomesFound<A>, teller: &mut Teller<'_, E>) -> u8
+fn tell_stuck<A: Allocator, E: Tell>(found: &OutcomesFound<A>, teller: &mut Teller<'_, E>) -> u8
     ensures { result ≡ 4 }
 {
     let _ = teller.err.write_all(b"txc: ");
-    let _ = write_shown(teller.detail.file, "", teller.err);
+    let _ = write_shown(teller.detail.file, "", &mut teller.err);
     let _ = teller.err.write_all(b": an order is stuck\n");
     if teller.detail.lines {
         if let [first, ..] = found.stuck.as_slice() {
-            write_order(first.order.as_slice(), teller.err);
+            write_order(first.order.as_slice(), &mut teller.err);
         }
     }
     STOPPED

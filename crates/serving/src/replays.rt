@@ -32,6 +32,7 @@ use crate::tell::{Teller, cannot_write, out_of_memory, refuse_replay};
 use bytecode::Code;
 use command::Steps;
 use containers::Items;
+use fault_lines::Tell;
 use replay::{Line, replay, timeline, write_schedule};
 use report::{End, Printed, ThreadShown, report_text, timeline_text};
 use std::alloc::{AllocError, Allocator, Global};
@@ -40,7 +41,7 @@ use syntax::tree::Unit;
 use world::{Report, WorldEnd, WorldFault, WorldStop};
 
 /// Replays steps of a source's threads and prints their report.
-pub(crate) fn replay_source<A: Allocator + Copy, S: Read + Drop, W: Write, E: Write>(
+pub(crate) fn replay_source<A: Allocator + Copy, S: Read + Drop, W: Write, E: Tell>(
     alloc: A,
     text: &str,
     threads: u32,
@@ -67,7 +68,7 @@ pub(crate) fn replay_source<A: Allocator + Copy, S: Read + Drop, W: Write, E: Wr
 }
 
 /// Reports where a replay leaves threads that have not ended, if lines are wanted.
-fn tell_replayed<A: Allocator + Copy, E: Write>(
+fn tell_replayed<A: Allocator + Copy, E: Tell>(
     alloc: A,
     text: &str,
     replayed: &Replayed<A>,
@@ -78,7 +79,7 @@ fn tell_replayed<A: Allocator + Copy, E: Write>(
 }
 
 /// Replays steps of a source's threads, shows each step, and prints the threads' report.
-pub(crate) fn show_steps<A: Allocator + Copy, S: Read + Drop, W: Write, E: Write>(
+pub(crate) fn show_steps<A: Allocator + Copy, S: Read + Drop, W: Write, E: Tell>(
     alloc: A,
     text: &str,
     threads: u32,
@@ -105,7 +106,7 @@ pub(crate) fn show_steps<A: Allocator + Copy, S: Read + Drop, W: Write, E: Write
 }
 
 /// Replays steps of a source's threads. The error is the exit status, and the reason is reported on standard error.
-pub(crate) fn replay_text<A: Allocator + Copy, S: Read + Drop, E: Write>(
+pub(crate) fn replay_text<A: Allocator + Copy, S: Read + Drop, E: Tell>(
     alloc: A,
     text: &str,
     threads: u32,
@@ -122,7 +123,7 @@ pub(crate) fn replay_text<A: Allocator + Copy, S: Read + Drop, E: Write>(
         Ok(compiled) => match lines_of(alloc, &compiled.code, threads, steps, schedule, teller) {
             Ok(found) => match replay_code(alloc, &compiled, threads, found.as_slice()) {
                 Ok(replayed) => Ok((compiled, replayed)),
-                Err(fault) => Err(refuse_replay(fault, teller.err)),
+                Err(fault) => Err(refuse_replay(fault, &mut teller.err)),
             },
             Err(status) => Err(status),
         },
@@ -131,7 +132,7 @@ pub(crate) fn replay_text<A: Allocator + Copy, S: Read + Drop, E: Write>(
 }
 
 /// Prints the steps of a seed as a schedule.
-pub(crate) fn print_schedule<A: Allocator + Copy, W: Write, E: Write>(
+pub(crate) fn print_schedule<A: Allocator + Copy, W: Write, E: Tell>(
     alloc: A,
     text: &str,
     threads: u32,
@@ -146,8 +147,8 @@ pub(crate) fn print_schedule<A: Allocator + Copy, W: Write, E: Write>(
     match compile(alloc, text) {
         Ok(_compiled) => match lines_picked(alloc, seed, threads, count, teller) {
             Ok(found) => match write_schedule(alloc, found.as_slice()) {
-                Ok(written) => print_text(written.as_str().as_bytes(), out, teller.err),
-                Err(_) => out_of_memory(teller.err),
+                Ok(written) => print_text(written.as_str().as_bytes(), out, &mut teller.err),
+                Err(_) => out_of_memory(&mut teller.err),
             },
             Err(status) => status,
         },
@@ -156,7 +157,7 @@ pub(crate) fn print_schedule<A: Allocator + Copy, W: Write, E: Write>(
 }
 
 /// Prints the steps of an order as a schedule.
-pub(crate) fn print_order<A: Allocator + Copy, W: Write, E: Write>(
+pub(crate) fn print_order<A: Allocator + Copy, W: Write, E: Tell>(
     alloc: A,
     text: &str,
     threads: u32,
@@ -170,8 +171,8 @@ pub(crate) fn print_order<A: Allocator + Copy, W: Write, E: Write>(
     match compile(alloc, text) {
         Ok(compiled) => match lines_in_order(alloc, &compiled.code, threads, order, teller) {
             Ok(found) => match write_schedule(alloc, found.as_slice()) {
-                Ok(written) => print_text(written.as_str().as_bytes(), out, teller.err),
-                Err(_) => out_of_memory(teller.err),
+                Ok(written) => print_text(written.as_str().as_bytes(), out, &mut teller.err),
+                Err(_) => out_of_memory(&mut teller.err),
             },
             Err(status) => status,
         },
@@ -181,7 +182,7 @@ pub(crate) fn print_order<A: Allocator + Copy, W: Write, E: Write>(
 
 /// Prints a text about a replay, and returns the exit status: by the ends of its threads, or by a step that was not
 /// made.
-pub(crate) fn print_for_replay<A: Allocator, W: Write, E: Write>(
+pub(crate) fn print_for_replay<A: Allocator, W: Write, E: Tell>(
     text: &[u8],
     replayed: &Replayed<A>,
     out: &mut W,
@@ -197,12 +198,12 @@ pub(crate) fn print_for_replay<A: Allocator, W: Write, E: Write>(
             Some(why) => teller.refuse_step(why),
             None => status_of(&replayed.printed),
         },
-        Err(_) => cannot_write(teller.err),
+        Err(_) => cannot_write(&mut teller.err),
     }
 }
 
 /// Prints the report of a replay. Returns the exit status as `print_for_replay` does.
-fn print_replay<A: Allocator + Copy, W: Write, E: Write>(
+fn print_replay<A: Allocator + Copy, W: Write, E: Tell>(
     alloc: A,
     replayed: &Replayed<A>,
     out: &mut W,
@@ -213,7 +214,7 @@ fn print_replay<A: Allocator + Copy, W: Write, E: Write>(
 {
     match report_text(alloc, &replayed.printed) {
         Ok(report) => print_for_replay(report.as_slice(), replayed, out, teller),
-        Err(_) => out_of_memory(teller.err),
+        Err(_) => out_of_memory(&mut teller.err),
     }
 }
 
@@ -241,7 +242,7 @@ fn timeline_and_report<A: Allocator + Copy>(
 
 /// Prints the lines of the steps of a replay, and then its report. Returns the exit status as `print_for_replay`
 /// does.
-fn print_timeline<A: Allocator + Copy, W: Write, E: Write>(
+fn print_timeline<A: Allocator + Copy, W: Write, E: Tell>(
     alloc: A,
     code: &Code<A>,
     threads: u32,
@@ -256,7 +257,7 @@ fn print_timeline<A: Allocator + Copy, W: Write, E: Write>(
 {
     match timeline_and_report(alloc, code, threads, replayed) {
         Some(text) => print_for_replay(text.as_slice(), replayed, out, teller),
-        None => out_of_memory(teller.err),
+        None => out_of_memory(&mut teller.err),
     }
 }
 

@@ -3,6 +3,7 @@
 ghost use Rattle.std.specs.Prelude.{◌≡◌, ◌≤◌, ◌⊎◌, IfSome, Some};
 ghost use Rattle.serving.specs.Answers.{Answers};
 ghost use Rattle.serving.specs.Refused.{IsRefusedFor};
+ghost use Rattle.serving.specs.Told.{TellsRefusal};
 ghost use Rattle.serving.specs.Written.{IsAskedFor, WritesPart};
 ghost use Rattle.serving.specs.inner.Serves.{ServesTask};
 
@@ -19,6 +20,7 @@ use crate::source::in_order;
 use crate::tell::{Teller, unusable};
 use crate::trace::trace;
 use command::Task;
+use fault_lines::Tell;
 use messages::{end_explanation, explanation};
 use std::alloc::{Allocator, Global};
 use std::io::{Read, Write};
@@ -37,7 +39,7 @@ pub(crate) fn serve_program<
     R: Read + Drop,
     S: Read + Drop,
     W: Write,
-    E: Write + Send,
+    E: Tell + Send,
 >(
     rt: &H,
     alloc: Global,
@@ -47,8 +49,10 @@ pub(crate) fn serve_program<
     out: &mut W,
     teller: &mut Teller<'_, E>,
 ) -> u8
-    ensures { ServesTask task.now (S.remaining schedule) (R.remaining source) result (W.contents out.old)
+    ensures serves { ServesTask task.now (S.remaining schedule) (R.remaining source) result (W.contents out.old)
         (W.contents out.new) }
+    ensures told { result ≡ 1 → IfSome (R.remaining source) (λ bytes. TellsRefusal task.now
+        teller.old.detail.format bytes (E.contents teller.old.err) (E.contents teller.new.err)) }
 {
     match text_of(alloc, source, teller) {
         Ok(text) => work(rt, alloc, task, text.as_str(), schedule, out, teller),
@@ -58,7 +62,7 @@ pub(crate) fn serve_program<
 
 /// Answers a request about the program in a file, as `serve` does, in memory of any allocator. It starts no thread, so
 /// `run` reports that its threads were not started.
-pub fn serve_alone<A: Allocator + Copy, R: Read + Drop, S: Read + Drop, W: Write, E: Write>(
+pub fn serve_alone<A: Allocator + Copy, R: Read + Drop, S: Read + Drop, W: Write, E: Tell>(
     alloc: A,
     task: &Task,
     source: R,
@@ -74,6 +78,8 @@ pub fn serve_alone<A: Allocator + Copy, R: Read + Drop, S: Read + Drop, W: Write
         (λ bytes. WritesPart (IsAskedFor task.now (S.remaining schedule) bytes) (W.contents out.old)
         (W.contents out.new)) }
     ensures untouched { result ≡ 1 → W.contents out.new ≡ W.contents out.old }
+    ensures told { result ≡ 1 → IfSome (R.remaining source) (λ bytes. TellsRefusal task.now
+        teller.old.detail.format bytes (E.contents teller.old.err) (E.contents teller.new.err)) }
 {
     match text_of(alloc, source, teller) {
         Ok(text) => work_alone(alloc, task, text.as_str(), schedule, out, teller),
@@ -82,7 +88,7 @@ pub fn serve_alone<A: Allocator + Copy, R: Read + Drop, S: Read + Drop, W: Write
 }
 
 /// Answers a request about the text of the program in a file.
-fn work<H: Threads + Wait + Sync, S: Read + Drop, W: Write, E: Write + Send>(
+fn work<H: Threads + Wait + Sync, S: Read + Drop, W: Write, E: Tell + Send>(
     rt: &H,
     alloc: Global,
     task: &Task,
@@ -91,8 +97,10 @@ fn work<H: Threads + Wait + Sync, S: Read + Drop, W: Write, E: Write + Send>(
     out: &mut W,
     teller: &mut Teller<'_, E>,
 ) -> u8
-    ensures { ServesTask task.now (S.remaining schedule) (Some text.now) result (W.contents out.old)
+    ensures serves { ServesTask task.now (S.remaining schedule) (Some text.now) result (W.contents out.old)
         (W.contents out.new) }
+    ensures told { result ≡ 1 → TellsRefusal task.now teller.old.detail.format text.now (E.contents teller.old.err)
+        (E.contents teller.new.err) }
 {
     match task {
         Task::Run {
@@ -116,7 +124,7 @@ fn work<H: Threads + Wait + Sync, S: Read + Drop, W: Write, E: Write + Send>(
 }
 
 /// Answers a request about the text of the program in a file, and starts no threads.
-fn work_alone<A: Allocator + Copy, S: Read + Drop, W: Write, E: Write>(
+fn work_alone<A: Allocator + Copy, S: Read + Drop, W: Write, E: Tell>(
     alloc: A,
     task: &Task,
     text: &str,
@@ -124,8 +132,10 @@ fn work_alone<A: Allocator + Copy, S: Read + Drop, W: Write, E: Write>(
     out: &mut W,
     teller: &mut Teller<'_, E>,
 ) -> u8
-    ensures { ServesTask task.now (S.remaining schedule) (Some text.now) result (W.contents out.old)
+    ensures serves { ServesTask task.now (S.remaining schedule) (Some text.now) result (W.contents out.old)
         (W.contents out.new) }
+    ensures told { result ≡ 1 → TellsRefusal task.now teller.old.detail.format text.now (E.contents teller.old.err)
+        (E.contents teller.new.err) }
 {
     match task {
         Task::Check(told) => check(alloc, text, *told, out, teller),

@@ -28,9 +28,9 @@ pub(crate) fn tell_list<A: Allocator, E: Write>(
     let (outcomes, stuck) = (found.outcomes.as_slice(), found.stuck.as_slice());
     match teller.detail.format {
         Format::Json => {
-            put_orders("outcome", outcomes, teller.err);
-            put_orders("stuck", stuck, teller.err);
-            put_verdict(found, threads, status, teller.err);
+            put_orders("outcome", outcomes, &mut teller.err);
+            put_orders("stuck", stuck, &mut teller.err);
+            put_verdict(found, threads, status, &mut teller.err);
         }
         Format::Github => {
             annotate_stuck(stuck, teller);
@@ -57,17 +57,17 @@ pub(crate) fn tell_admission<A: Allocator, E: Write>(
                 } else {
                     "nearest"
                 };
-                put_order_of(kind, one, teller.err);
+                put_order_of(kind, one, &mut teller.err);
             }
-            put_verdict(found, threads, status, teller.err);
+            put_verdict(found, threads, status, &mut teller.err);
         }
         Format::Github => {
             if status == REFUTED {
-                let _ = begin_annotation("error", teller.detail.file, teller.err);
+                let _ = begin_annotation("error", teller.detail.file, &mut teller.err);
                 let _ = teller
                     .err
                     .write_all(b",title=admits::no outcome has the report ");
-                let _ = write_message(file, teller.err);
+                let _ = write_message(file, &mut teller.err);
                 let _ = teller.err.write_all(b"\n");
             }
         }
@@ -105,15 +105,15 @@ pub(crate) fn tell_answers<A: Allocator, E: Write>(
     match teller.detail.format {
         Format::Json => {
             'properties: for one in found.properties.as_slice() {
-                put_property(one, teller.err);
+                put_property(one, &mut teller.err);
             }
-            put_orders("stuck", stuck, teller.err);
+            put_orders("stuck", stuck, &mut teller.err);
             let _ = write!(
                 teller.err,
                 "{{\"result\":\"verdict\",\"status\":{status},\"threads\":{threads},\"stuck\":{},\"stopped\":",
                 stuck.len()
             );
-            put_stop(found.end, found.is_answered, teller.err);
+            put_stop(found.end, found.is_answered, &mut teller.err);
         }
         Format::Github => {
             'annotated: for one in found.properties.as_slice() {
@@ -251,14 +251,14 @@ fn annotate<A: Allocator, E: Write>(
         Finding::Fails(order) => ("error", "fails", Some(order)),
         Finding::Spent(order) => ("error", "takes too long", Some(order)),
     };
-    let _ = begin_annotation(kind, teller.detail.file, teller.err);
+    let _ = begin_annotation(kind, teller.detail.file, &mut teller.err);
     if let Some(start) = start_of(unit, name) {
         let (line, column) = place(text, start.min(text.len()));
         let _ = write!(teller.err, ",line={line},col={column}");
     }
     let _ = write!(teller.err, ",title={name}::{name} {words}");
     if let Some(order) = order {
-        put_order(order.order.as_slice(), teller.err);
+        put_order(order.order.as_slice(), &mut teller.err);
     }
     let _ = teller.err.write_all(b"\n");
 }
@@ -266,11 +266,11 @@ fn annotate<A: Allocator, E: Write>(
 /// Annotates the source with each stuck order.
 fn annotate_stuck<A: Allocator, E: Write>(stuck: &[ReportedOrder<A>], teller: &mut Teller<'_, E>) {
     'stuck: for one in stuck {
-        let _ = begin_annotation("error", teller.detail.file, teller.err);
+        let _ = begin_annotation("error", teller.detail.file, &mut teller.err);
         let _ = teller
             .err
             .write_all(b",title=stuck::no continuation lets all threads end");
-        put_order(one.order.as_slice(), teller.err);
+        put_order(one.order.as_slice(), &mut teller.err);
         let _ = teller.err.write_all(b"\n");
     }
 }

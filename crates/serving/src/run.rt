@@ -28,6 +28,7 @@ use crate::run_line::RunWatch;
 use crate::tell::{Teller, out_of_memory, tell_counts};
 use bytecode::Code;
 use containers::Items;
+use fault_lines::Tell;
 use norec_core::Stop;
 use report::{End, Shown, ThreadSeen};
 use std::alloc::{AllocError, Global};
@@ -41,7 +42,7 @@ use workers::{Ending, Finished, Gate, RunFault, RunMemory, RunReport, run_all};
 /// Runs all threads of a source at once over this many bytes of memory, and prints their report. If lines are wanted,
 /// it reports where threads trapped or stopped. If counts are wanted, it reports them. While the threads run, it shows
 /// their progress if that is wanted.
-pub(crate) fn run<H: Threads + Wait + Sync, W: Write, E: Write + Send>(
+pub(crate) fn run<H: Threads + Wait + Sync, W: Write, E: Tell + Send>(
     rt: &H,
     alloc: Global,
     text: &str,
@@ -58,7 +59,13 @@ pub(crate) fn run<H: Threads + Wait + Sync, W: Write, E: Write + Send>(
         (IsReportOf (RunsConcurrently threads budget text.now)) result (W.contents out.old) (W.contents out.new) }
 {
     reports_are_orders();
-    let watch = RunWatch::new(teller.err, teller.detail.progress, budget, memory, threads);
+    let watch = RunWatch::new(
+        &mut teller.err,
+        teller.detail.progress,
+        budget,
+        memory,
+        threads,
+    );
     let ran = run_threads(rt, alloc, text, threads, budget, &watch);
     watch.clear();
     match ran {
@@ -88,7 +95,7 @@ struct RunLeft {
 
 /// Prints the report of a run of this many threads, each text from the thread itself. If they are wanted, it also
 /// reports counts, and where threads trapped or stopped.
-fn print_left<W: Write, E: Write>(
+fn print_left<W: Write, E: Tell>(
     alloc: Global,
     text: &str,
     threads: u32,
@@ -103,12 +110,24 @@ fn print_left<W: Write, E: Write>(
         Ok(seen) => {
             let holder = holder_of(&left.ran.memory);
             let globals = left.globals.as_slice();
-            let status = print_seen(alloc, seen.as_slice(), globals, holder, out, teller.err);
+            let status = print_seen(
+                alloc,
+                seen.as_slice(),
+                globals,
+                holder,
+                out,
+                &mut teller.err,
+            );
             tell_ends(alloc, text, seen.as_slice(), left.stood.as_slice(), teller);
-            tell_counts(counts, threads, left.ran.threads.as_slice(), teller.err);
+            tell_counts(
+                counts,
+                threads,
+                left.ran.threads.as_slice(),
+                &mut teller.err,
+            );
             status
         }
-        Err(_) => out_of_memory(teller.err),
+        Err(_) => out_of_memory(&mut teller.err),
     }
 }
 

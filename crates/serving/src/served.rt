@@ -9,6 +9,7 @@ use crate::certify::certify;
 use crate::compared::compare;
 use crate::cover::cover;
 use crate::fair::decide_fair;
+use crate::lossy::Lossy;
 use crate::request::{explain, explain_end, serve_program};
 use crate::tell::{Detail, Teller};
 use command::Request;
@@ -70,7 +71,7 @@ pub fn serve<
             task,
         } => {
             let detail = Detail::of(file.as_str(), *verbose, *format, is_terminal);
-            let mut teller = Teller::new(err, detail);
+            let mut teller = Teller::new(Lossy::new(err), detail);
             serve_program(rt, alloc, task, source, schedule, out, &mut teller)
         }
         Request::Certify {
@@ -80,7 +81,7 @@ pub fn serve<
             claim,
         } => {
             let detail = Detail::of(file.as_str(), *verbose, *format, is_terminal);
-            let mut teller = Teller::new(err, detail);
+            let mut teller = Teller::new(Lossy::new(err), detail);
             certify(alloc, claim, source, schedule, report, out, &mut teller)
         }
         Request::Compare {
@@ -90,7 +91,7 @@ pub fn serve<
             comparison,
         } => {
             let detail = Detail::of(file.as_str(), *verbose, *format, is_terminal);
-            let mut teller = Teller::new(err, detail);
+            let mut teller = Teller::new(Lossy::new(err), detail);
             compare(alloc, comparison, source, report, out, &mut teller)
         }
         Request::Ask {
@@ -100,7 +101,7 @@ pub fn serve<
             questions,
         } => {
             let detail = Detail::of(file.as_str(), *verbose, *format, is_terminal);
-            let mut teller = Teller::new(err, detail);
+            let mut teller = Teller::new(Lossy::new(err), detail);
             ask(alloc, questions, source, out, &mut teller)
         }
         Request::Cover {
@@ -110,7 +111,7 @@ pub fn serve<
             coverage,
         } => {
             let detail = Detail::of(file.as_str(), *verbose, *format, is_terminal);
-            let mut teller = Teller::new(err, detail);
+            let mut teller = Teller::new(Lossy::new(err), detail);
             cover(alloc, coverage, source, out, &mut teller)
         }
         Request::Fair {
@@ -120,7 +121,7 @@ pub fn serve<
             search,
         } => {
             let detail = Detail::of(file.as_str(), *verbose, *format, is_terminal);
-            let mut teller = Teller::new(err, detail);
+            let mut teller = Teller::new(Lossy::new(err), detail);
             decide_fair(alloc, search, source, out, &mut teller)
         }
         Request::Explain { number } => explain(*number, out, err),

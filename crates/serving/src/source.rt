@@ -20,6 +20,7 @@ use crate::print::print_report;
 use crate::program::{SourceFault, read_accepted, unit_of};
 use crate::tell::Teller;
 use containers::Items;
+use fault_lines::Tell;
 use meaning::{MeaningFault, SourceOutcome, ThreadEnd, ThreadReport, run_order};
 use report::{End, Printed, ThreadShown};
 use separation::Accepted;
@@ -29,7 +30,7 @@ use syntax::tree::Unit;
 use thiserror::Error;
 
 /// Runs threads of a source in an order and prints their report.
-pub(crate) fn in_order<A: Allocator + Copy, W: Write, E: Write>(
+pub(crate) fn in_order<A: Allocator + Copy, W: Write, E: Tell>(
     alloc: A,
     text: &str,
     threads: u32,
@@ -46,7 +47,7 @@ pub(crate) fn in_order<A: Allocator + Copy, W: Write, E: Write>(
 {
     match order_of_text(alloc, text, threads, order, ticks) {
         Ok((printed, stood)) => {
-            let status = print_report(alloc, &printed, out, teller.err);
+            let status = print_report(alloc, &printed, out, &mut teller.err);
             let found = printed.threads.as_slice();
             tell_ends(alloc, text, found, stood.as_slice(), teller);
             status

@@ -1,8 +1,11 @@
 //! Reports on standard error.
 
-ghost use Rattle.std.specs.Prelude.{◌≡◌, ◌≢◌, ◌≤◌, ◌⊎◌, is_some, true};
-ghost use Rattle.serving.specs.Refusals.{span_of_source};
+ghost use Rattle.std.specs.Prelude.{◌≡◌, ◌≢◌, ◌≤◌, ◌⊎◌, [], is_some, true};
+ghost use Rattle.std.specs.Io.KnownBytes.{Appends};
 ghost use Rattle.std.specs.IoError.{error_kind};
+ghost use Rattle.fault_lines.specs.Lines.{fault_line};
+ghost use Rattle.serving.specs.Refusals.{span_of_source};
+ghost use Rattle.serving.specs.Told.{TellsMore, TellsFirst, TellsLine};
 ghost use Rattle.serving.specs.Usage.{IsHelp, IsWrong};
 
 use crate::print::{ENDED, REFUSED, STOPPED, UNUSABLE, print};
@@ -10,10 +13,11 @@ use crate::program::SourceFault;
 use crate::run::thread_numbered;
 use annotations::begin_annotation;
 use command::{Format, UsageFault};
+use fault_lines::{Tell, tell_fault, tell_number, words};
 use lex::place;
 use lex::token::Span;
 use meaning::MeaningFault;
-use messages::{Fault, hints, json_line, short_line, underline, words, write_quoted, write_shown};
+use messages::{Fault, hints, json_line, short_line, underline, write_quoted, write_shown};
 use parameters::Definition;
 use replay::ScheduleFault;
 use std::alloc::Allocator;
@@ -44,7 +48,9 @@ pub struct Detail<'a> {
 
 impl<'a> Detail<'a> {
     /// How faults of a file's program are reported, by the options and by whether standard error is a terminal.
-    pub fn of(file: &'a str, verbose: bool, format: Format, is_terminal: bool) -> Detail<'a> {
+    pub fn of(file: &'a str, verbose: bool, format: Format, is_terminal: bool) -> Detail<'a>
+        ensures { result.format ≡ format }
+    {
         Detail {
             lines: match format {
                 Format::Plain => verbose || is_terminal,
@@ -70,12 +76,6 @@ impl<'a> Detail<'a> {
         }
     }
 
-    /// The same for a source in which these numbers replace names.
-    pub(crate) fn defining(mut self, definitions: &'a [Definition]) -> Detail<'a> {
-        self.definitions = definitions;
-        self
-    }
-
     /// How faults of another file's program are reported.
     pub(crate) fn of_file<'b>(self, file: &'b str) -> Detail<'b> {
         Detail {
@@ -92,23 +92,34 @@ impl<'a> Detail<'a> {
 }
 
 /// Reports faults of a file's program and the progress of a search, as its detail says. A report that has only one form
-/// takes the writer itself. Text that the writer does not take is lost.
+/// takes the writer itself.
 #[derive(Drop)]
 pub struct Teller<'a, E: Write> {
     /// The writer for reports.
-    pub(crate) err: &'a mut E,
+    pub(crate) err: E,
     /// The detail of the reports.
     pub(crate) detail: Detail<'a>,
 }
 
 impl<'a, E: Write> Teller<'a, E> {
     /// Reports to this writer, with this detail.
-    pub fn new(err: &'a mut E, detail: Detail<'a>) -> Teller<'a, E> {
+    pub fn new(err: E, detail: Detail<'a>) -> Teller<'a, E>
+        ensures err { result.err ≡ err }
+        ensures detail { result.detail ≡ detail.entry }
+    {
         Teller { err, detail }
+    }
+
+    /// The writer for reports.
+    pub fn into_err(self) -> E
+        ensures { result ≡ self.entry.err }
+    {
+        let Teller { err, .. } = self;
+        err
     }
 }
 
-impl<E: Write> Teller<'_, E> {
+impl<E: Tell> Teller<'_, E> {
     /// Shows traces of a search's first findings if they are wanted.
     pub(crate) fn show_traces(&mut self, are_wanted: bool) {
         if are_wanted {
@@ -128,6 +139,9 @@ impl<E: Write> Teller<'_, E> {
         ensures not_unusable { result ≢ 2 }
         ensures not_trapped { result ≢ 3 }
         ensures refused { result ≡ 1 → is_some (span_of_source fault) ≡ true }
+        ensures told { result ≡ 1 → self.old.detail.format ≡ Format.Plain
+            → TellsLine text.now fault (E.contents self.old.err) (E.contents self.new.err) }
+        ensures kept { self.new.detail ≡ self.old.detail }
     {
         let number = fault.number();
         match fault.span() {
@@ -135,46 +149,80 @@ impl<E: Write> Teller<'_, E> {
                 self.tell_with_line(alloc, text, number, span);
                 REFUSED
             }
-            None => out_of_memory(self.err),
+            None => out_of_memory(&mut self.err),
         }
     }
 
     /// Reports the fault of this number at a span of the source, and shows the source line if lines are wanted.
+    #[tactic(auto, using(crate::proofs::Told::first_told))]
     pub(crate) fn tell_with_line<A: Allocator + Copy>(
         &mut self,
         alloc: A,
         text: &str,
         number: u32,
         span: Span,
-    ) {
+    )
+        ensures told { self.old.detail.format ≡ Format.Plain
+            → TellsFirst (fault_line text.now number span) (E.contents self.old.err) (E.contents self.new.err) }
+        ensures kept { self.new.detail ≡ self.old.detail }
+    {
         self.tell_fault(alloc, text, number, span);
+        self.tell_more(alloc, text, number, span);
+    }
+
+    /// If lines are wanted, shows the source line of a fault, hints, and where to read more.
+    #[tactic(auto, using(crate::proofs::Told::told_some, crate::proofs::Told::tells_nothing_more, crate::proofs::Told::tells_more, crate::proofs::Told::told_thrice, crate::proofs::Told::tells_thrice))]
+    fn tell_more<A: Allocator + Copy>(&mut self, alloc: A, text: &str, number: u32, span: Span)
+        ensures kept { self.new.detail ≡ self.old.detail }
+        ensures more { TellsMore (E.contents self.old.err) (E.contents self.new.err) }
+    {
         if self.detail.lines {
-            show_line(alloc, text, span, self.err);
-            show_hints(alloc, text, number, span, self.err);
-            show_where_more(number, self.err);
+            show_line(alloc, text, span, &mut self.err);
+            show_hints(alloc, text, number, span, &mut self.err);
+            show_where_more(number, &mut self.err);
         }
     }
 
     /// Reports the fault of this number at a span of the source. After an allocation failure, the plain form replaces
     /// any other form.
-    fn tell_fault<A: Allocator + Copy>(&mut self, alloc: A, text: &str, number: u32, span: Span) {
-        if let Some(line) = line_of(alloc, text, number, span, self.detail) {
-            let _ = self.err.write_all(line.as_slice());
-        } else if self.detail.format == Format::Github {
-            let (line, column) = place(text, span.start.min(text.len()));
-            let _ = begin_annotation("error", self.detail.file, self.err);
-            let _ = writeln!(
-                self.err,
-                ",line={line},col={column},title=fault {number:02}::{}",
-                words(number)
-            );
-        } else {
-            let (line, column) = place(text, span.start.min(text.len()));
-            let _ = writeln!(
-                self.err,
-                "txc: fault {number:02} at {line}:{column}: {}",
-                words(number)
-            );
+    fn tell_fault<A: Allocator + Copy>(&mut self, alloc: A, text: &str, number: u32, span: Span)
+        ensures told { self.old.detail.format ≡ Format.Plain
+            → Appends (E.contents self.old.err) (E.contents self.new.err) (fault_line text.now number span) }
+        ensures kept { self.new.detail ≡ self.old.detail }
+    {
+        match self.detail.format {
+            Format::Plain => tell_fault(text, number, span, &mut self.err),
+            Format::Github => self.annotate_fault(text, number, span),
+            Format::Short | Format::Json => self.tell_for_editors(alloc, text, number, span),
+        }
+    }
+
+    /// Annotates the source with a fault.
+    fn annotate_fault(&mut self, text: &str, number: u32, span: Span)
+        ensures { self.new.detail ≡ self.old.detail }
+    {
+        let (line, column) = place(text, span.start.min(text.len()));
+        let _ = begin_annotation("error", self.detail.file, &mut self.err);
+        let _ = writeln!(
+            self.err,
+            ",line={line},col={column},title=fault {number:02}::{}",
+            words(number)
+        );
+    }
+
+    /// Reports a fault in a form for editors. After an allocation failure, the plain form replaces it.
+    fn tell_for_editors<A: Allocator + Copy>(
+        &mut self,
+        alloc: A,
+        text: &str,
+        number: u32,
+        span: Span,
+    )
+        ensures { self.new.detail ≡ self.old.detail }
+    {
+        match line_of(alloc, text, number, span, self.detail) {
+            Some(line) => self.err.tell(line.as_slice()),
+            None => tell_fault(text, number, span, &mut self.err),
         }
     }
 
@@ -182,7 +230,7 @@ impl<E: Write> Teller<'_, E> {
     fn show_words(&mut self, number: u32) {
         if self.detail.lines {
             let _ = writeln!(self.err, "{}", words(number));
-            show_where_more(number, self.err);
+            show_where_more(number, &mut self.err);
         }
     }
 
@@ -193,7 +241,7 @@ impl<E: Write> Teller<'_, E> {
         match self.detail.format {
             Format::Plain => {
                 let _ = self.err.write_all(b"txc: cannot read ");
-                let _ = write_shown(file, "", self.err);
+                let _ = write_shown(file, "", &mut self.err);
                 let _ = if self.detail.reasons {
                     writeln!(self.err, " ({error})")
                 } else {
@@ -211,10 +259,10 @@ impl<E: Write> Teller<'_, E> {
     fn tell_of_file(&mut self, file: &str, what: &str) {
         if self.detail.format == Format::Json {
             let _ = self.err.write_all(b"{\"file\":");
-            let _ = write_quoted(file, self.err);
+            let _ = write_quoted(file, &mut self.err);
             let _ = writeln!(self.err, ",\"message\":\"{what}\"}}");
         } else {
-            let _ = write_shown(file, "", self.err);
+            let _ = write_shown(file, "", &mut self.err);
             let _ = writeln!(self.err, ": error: {what}");
         }
     }
@@ -233,7 +281,7 @@ impl<E: Write> Teller<'_, E> {
         match self.detail.format {
             Format::Plain => {
                 let _ = self.err.write_all(b"txc: ");
-                let _ = write_shown(file, "", self.err);
+                let _ = write_shown(file, "", &mut self.err);
                 let _ = writeln!(self.err, " {what}");
             }
             Format::Short | Format::Json | Format::Github => {
@@ -250,22 +298,33 @@ impl<E: Write> Teller<'_, E> {
         ensures others { error_kind error.now ≢ ErrorKind.OutOfMemory → result ≡ 2 }
     {
         match error.kind() {
-            ErrorKind::OutOfMemory => out_of_memory(self.err),
+            ErrorKind::OutOfMemory => out_of_memory(&mut self.err),
             _ => self.cannot_read(file, error),
         }
     }
 
     /// Reports that a source has too many bytes.
+    #[tactic(auto, using(crate::proofs::Told::first_told))]
     pub(crate) fn too_long<A: Allocator + Copy>(&mut self, alloc: A) -> u8
-        ensures { result ≡ 1 }
+        ensures status { result ≡ 1 }
+        ensures told { self.old.detail.format ≡ Format.Plain → TellsFirst
+            (fault_line [] 5 (record { start = 0; «end» = 0 })) (E.contents self.old.err) (E.contents self.new.err) }
     {
         let span = Span { start: 0, end: 0 };
         self.tell_fault(alloc, "", 5, span);
-        if self.detail.lines {
-            show_hints(alloc, "", 5, span, self.err);
-            show_where_more(5, self.err);
-        }
+        self.tell_hints(alloc, 5, span);
         REFUSED
+    }
+
+    /// If lines are wanted, shows hints about a fault that has no line, and where to read more.
+    #[tactic(auto, using(crate::proofs::Told::told_some, crate::proofs::Told::tells_nothing_more, crate::proofs::Told::tells_more, crate::proofs::Told::told_thrice, crate::proofs::Told::tells_thrice))]
+    fn tell_hints<A: Allocator + Copy>(&mut self, alloc: A, number: u32, span: Span)
+        ensures { TellsMore (E.contents self.old.err) (E.contents self.new.err) }
+    {
+        if self.detail.lines {
+            show_hints(alloc, "", number, span, &mut self.err);
+            show_where_more(number, &mut self.err);
+        }
     }
 
     /// Reports why threads were not run.
@@ -273,7 +332,7 @@ impl<E: Write> Teller<'_, E> {
         ensures { result ≡ 4 }
     {
         match fault {
-            RunFault::OutOfMemory => out_of_memory(self.err),
+            RunFault::OutOfMemory => out_of_memory(&mut self.err),
             RunFault::Threads | RunFault::NotStarted => self.tell_number(fault.number(), STOPPED),
         }
     }
@@ -304,11 +363,16 @@ impl<E: Write> Teller<'_, E> {
         ensures { (result ≡ 2) ⊎ (result ≡ 4) }
     {
         match fault {
-            ScheduleFault::OutOfMemory => return out_of_memory(self.err),
+            ScheduleFault::OutOfMemory => return out_of_memory(&mut self.err),
             ScheduleFault::BadLine(line) => {
                 let _ = writeln!(self.err, "txc: fault {} at line {line}", fault.number());
                 if self.detail.lines {
-                    show_line(alloc, text, span_of_line(text.as_bytes(), line), self.err);
+                    show_line(
+                        alloc,
+                        text,
+                        span_of_line(text.as_bytes(), line),
+                        &mut self.err,
+                    );
                 }
             }
             ScheduleFault::TooLong => {
@@ -327,7 +391,7 @@ impl<E: Write> Teller<'_, E> {
         ensures threads { fault ≡ MeaningFault.WrongThreads → result ≡ 4 }
     {
         match fault {
-            MeaningFault::OutOfMemory => out_of_memory(self.err),
+            MeaningFault::OutOfMemory => out_of_memory(&mut self.err),
             MeaningFault::Stranger => self.tell_number(fault.number(), UNUSABLE),
             MeaningFault::WrongThreads => self.tell_number(fault.number(), STOPPED),
         }
@@ -350,6 +414,7 @@ pub fn tell_usage<W: Write, E: Write>(fault: &UsageFault, out: &mut W, err: &mut
     ensures wrong { IsWrong fault.now → result ≡ 2 }
     ensures memory { fault.now ≡ UsageFault.OutOfMemory → result ≡ 4 }
     ensures untouched { IsHelp fault.now ⊎ (W.contents out.new ≡ W.contents out.old) }
+    ensures unrefused { result ≢ 1 }
 {
     match fault {
         UsageFault::OutOfMemory => out_of_memory(err),
@@ -387,33 +452,39 @@ fn line_of<A: Allocator + Copy>(
 
 /// Shows the source line in which a span begins, with carets under the span. After an allocation failure, it shows
 /// nothing.
-pub(crate) fn show_line<A: Allocator + Copy, E: Write>(
-    alloc: A,
-    text: &str,
-    span: Span,
-    err: &mut E,
-) {
+#[tactic(auto, using(crate::proofs::Told::told_some, crate::proofs::Told::tells_nothing_more, crate::proofs::Told::tells_more, crate::proofs::Told::told_thrice, crate::proofs::Told::tells_thrice))]
+pub(crate) fn show_line<A: Allocator + Copy, E: Tell>(alloc: A, text: &str, span: Span, err: &mut E)
+    ensures { TellsMore (E.contents err.old) (E.contents err.new) }
+{
     if let Ok(shown) = underline(alloc, text, span) {
-        let _ = err.write_all(shown.as_str().as_bytes());
+        err.tell(shown.as_str().as_bytes());
     }
 }
 
 /// Shows what could be at the place of a fault, or what is meant there. Shows nothing after an allocation failure.
-fn show_hints<A: Allocator + Copy, E: Write>(
+#[tactic(auto, using(crate::proofs::Told::told_some, crate::proofs::Told::tells_nothing_more, crate::proofs::Told::tells_more, crate::proofs::Told::told_thrice, crate::proofs::Told::tells_thrice))]
+fn show_hints<A: Allocator + Copy, E: Tell>(
     alloc: A,
     text: &str,
     number: u32,
     span: Span,
     err: &mut E,
-) {
+)
+    ensures { TellsMore (E.contents err.old) (E.contents err.new) }
+{
     if let Ok(shown) = hints(alloc, text, number, span) {
-        let _ = err.write_all(shown.as_str().as_bytes());
+        err.tell(shown.as_str().as_bytes());
     }
 }
 
 /// Reports where to read more about a fault.
-fn show_where_more<E: Write>(number: u32, err: &mut E) {
-    let _ = writeln!(err, "txc explain {number:02} says more");
+#[tactic(auto, using(crate::proofs::Told::told_some, crate::proofs::Told::tells_nothing_more, crate::proofs::Told::tells_more, crate::proofs::Told::told_thrice, crate::proofs::Told::tells_thrice))]
+fn show_where_more<E: Tell>(number: u32, err: &mut E)
+    ensures { TellsMore (E.contents err.old) (E.contents err.new) }
+{
+    err.tell(b"txc explain ");
+    tell_number(number, err);
+    err.tell(b" says more\n");
 }
 
 /// Reports an allocation failure.

@@ -1,5 +1,6 @@
 //! A writer that appends the elapsed seconds to a progress line, and reports when a time limit is reached.
 
+use fault_lines::Tell;
 use std::io;
 use std::io::{ErrorKind, Write};
 use std::time::{Clock, Instant};
@@ -12,9 +13,9 @@ use std::time::{Clock, Instant};
 /// If there is a time limit, a flush fails with `TimedOut` once these seconds have passed. It fails again each time as
 /// many more have passed. No other flush fails.
 #[derive(Drop)]
-pub struct Timed<'a, W: Write, C: Clock> {
+pub struct Timed<'a, 'b, W: Write, C: Clock> {
     writer: &'a mut W,
-    clock: &'a C,
+    clock: &'b C,
     since: Option<Instant>,
     /// The time limit in seconds, if there is one.
     limit: Option<u32>,
@@ -31,9 +32,9 @@ pub struct Timed<'a, W: Write, C: Clock> {
     second: u64,
 }
 
-impl<'a, W: Write, C: Clock> Timed<'a, W, C> {
+impl<'a, 'b, W: Write, C: Clock> Timed<'a, 'b, W, C> {
     /// Its seconds begin now.
-    pub fn new(writer: &'a mut W, clock: &'a C, limit: Option<u32>) -> Timed<'a, W, C> {
+    pub fn new(writer: &'a mut W, clock: &'b C, limit: Option<u32>) -> Timed<'a, 'b, W, C> {
         let since = Instant::now(clock).ok();
         let due = match limit {
             Some(seconds) => u64::from(seconds),
@@ -88,6 +89,14 @@ impl<'a, W: Write, C: Clock> Timed<'a, W, C> {
         }
     }
 
+    /// Reads a part of a line: whether it remains open, and its first number.
+    fn read_line(&mut self, text: &[u8]) {
+        if let [.., last] = text {
+            self.is_open = *last != b'\n' && *last != b'\r';
+        }
+        self.read_number(text);
+    }
+
     /// Reads the first number of a line.
     fn read_number(&mut self, text: &[u8]) {
         'bytes: for byte in text {
@@ -107,12 +116,9 @@ impl<'a, W: Write, C: Clock> Timed<'a, W, C> {
     }
 }
 
-impl<W: Write, C: Clock> Write for Timed<'_, W, C> {
+impl<W: Write, C: Clock> Write for Timed<'_, '_, W, C> {
     fn write(&mut self, buf: &[u8]) -> io::Result<usize> {
-        if let [.., last] = buf {
-            self.is_open = *last != b'\n' && *last != b'\r';
-        }
-        self.read_number(buf);
+        self.read_line(buf);
         self.writer.write(buf)
     }
 
@@ -129,5 +135,12 @@ impl<W: Write, C: Clock> Write for Timed<'_, W, C> {
             }
         }
         Ok(())
+    }
+}
+
+impl<W: Tell, C: Clock> Tell for Timed<'_, '_, W, C> {
+    fn tell(&mut self, bytes: &[u8]) {
+        self.read_line(bytes);
+        self.writer.tell(bytes)
     }
 }

@@ -17,6 +17,7 @@ use crate::program::{Compiled, compile, unit_of};
 use crate::replays::{Replayed, print_for_replay, replay_code};
 use crate::tell::{Teller, out_of_memory, refuse_replay};
 use command::Format;
+use fault_lines::Tell;
 use lex::lex;
 use meaning::{Reply, asked_program};
 use replay::Line;
@@ -30,7 +31,7 @@ use turns::{Asked, Form, Source, Standing, Traced, View, turns_shown, view_text}
 const MOST_TICKS: u64 = 1000000;
 
 /// Shows an order of a source's threads turn by turn, and the value of a function in the last memory.
-pub(crate) fn trace<A: Allocator + Copy, W: Write, E: Write>(
+pub(crate) fn trace<A: Allocator + Copy, W: Write, E: Tell>(
     alloc: A,
     text: &str,
     threads: u32,
@@ -67,7 +68,7 @@ pub(crate) fn trace<A: Allocator + Copy, W: Write, E: Write>(
 
 /// Replays an order of a source's threads. Returns the program, the schedule of the order, and the result of the
 /// replay. The error is the exit status, and the reason is reported on standard error.
-fn traced<A: Allocator + Copy, E: Write>(
+fn traced<A: Allocator + Copy, E: Tell>(
     alloc: A,
     text: &str,
     threads: u32,
@@ -82,7 +83,7 @@ fn traced<A: Allocator + Copy, E: Write>(
         Ok(compiled) => match lines_asked(alloc, &compiled, threads, order, property, teller) {
             Ok(found) => match replay_code(alloc, &compiled, threads, found.as_slice()) {
                 Ok(replayed) => Ok((compiled, found, replayed)),
-                Err(fault) => Err(refuse_replay(fault, teller.err)),
+                Err(fault) => Err(refuse_replay(fault, &mut teller.err)),
             },
             Err(status) => Err(status),
         },
@@ -91,7 +92,7 @@ fn traced<A: Allocator + Copy, E: Write>(
 }
 
 /// The schedule of an order, unless the given function is not a property.
-fn lines_asked<A: Allocator + Copy, E: Write>(
+fn lines_asked<A: Allocator + Copy, E: Tell>(
     alloc: A,
     compiled: &Compiled<A>,
     threads: u32,
@@ -102,14 +103,14 @@ fn lines_asked<A: Allocator + Copy, E: Write>(
     ensures turns { IfOk result (λ v. AreTurnsOf compiled.now.code threads order.now v.items) }
     ensures status { IfErr result (λ s. (s ≡ 2) ⊎ (s ≡ 4)) }
 {
-    match refuse_property(alloc, compiled, property, teller.err) {
+    match refuse_property(alloc, compiled, property, &mut teller.err) {
         Some(status) => Err(status),
         None => lines_in_order(alloc, &compiled.code, threads, order, teller),
     }
 }
 
 /// The exit status if the given function is not a property. The reason is then reported on standard error.
-fn refuse_property<A: Allocator + Copy, E: Write>(
+fn refuse_property<A: Allocator + Copy, E: Tell>(
     alloc: A,
     compiled: &Compiled<A>,
     property: Option<&str>,
@@ -124,7 +125,7 @@ fn refuse_property<A: Allocator + Copy, E: Write>(
 }
 
 /// Reports where threads trapped, if lines are wanted.
-fn tell_traps<A: Allocator + Copy, E: Write>(
+fn tell_traps<A: Allocator + Copy, E: Tell>(
     alloc: A,
     text: &str,
     replayed: &Replayed<A>,
@@ -137,7 +138,7 @@ fn tell_traps<A: Allocator + Copy, E: Write>(
 }
 
 /// Prints the trace of an order.
-fn print_trace<A: Allocator + Copy, W: Write, E: Write>(
+fn print_trace<A: Allocator + Copy, W: Write, E: Tell>(
     alloc: A,
     text: &str,
     compiled: &Compiled<A>,
@@ -157,7 +158,7 @@ fn print_trace<A: Allocator + Copy, W: Write, E: Write>(
     let form = form_of(teller.detail.format, in_full);
     match trace_of(alloc, text, compiled, threads, lines, property, stood, form) {
         Some(written) => print_for_replay(written.as_slice(), replayed, out, teller),
-        None => out_of_memory(teller.err),
+        None => out_of_memory(&mut teller.err),
     }
 }
 
@@ -258,7 +259,7 @@ fn words_of_reply<A: Allocator + Copy>(
 }
 
 /// Reports an order and its trace. Reports nothing after an allocation failure, or if the turns make too many steps.
-pub(crate) fn tell_trace<A: Allocator + Copy, E: Write>(
+pub(crate) fn tell_trace<A: Allocator + Copy, E: Tell>(
     alloc: A,
     text: &str,
     compiled: &Compiled<A>,

@@ -2,7 +2,8 @@
 
 use crate::opened::{Found, NONE, Opened, REFUSED, Told};
 use crate::served::Closed;
-use serving::{Files, serve_asked, tell_usage};
+use command::Format;
+use serving::{Detail, Files, Teller, serve_asked, tell_usage};
 use std::alloc::Global;
 use std::io;
 use std::io::{ErrorKind, Write};
@@ -307,7 +308,16 @@ fn answer<H: Threads + Wait + Clock + Sync, W: Write>(
     told: &mut Told,
 ) -> u8 {
     match asked_of(alloc, line) {
-        Ok(asked) => serve_asked(rt, alloc, &asked, files, out, told),
+        Ok(asked) => {
+            let err = Told {
+                bytes: Vec::new(alloc),
+                is_terminal: told.is_terminal,
+            };
+            let mut teller = Teller::new(err, Detail::of("", false, Format::Plain, false));
+            let status = serve_asked(rt, alloc, &asked, files, out, &mut teller);
+            told.bytes = teller.into_err().bytes;
+            status
+        }
         Err(fault) => tell_usage(&fault, out, told),
     }
 }

@@ -1,7 +1,7 @@
 //! Hostile environments: each allocation of a request fails in turn, or threads are not started.
 
 use command::{Format, Request, Task};
-use serving::{Detail, Teller, serve_alone};
+use serving::{Detail, Lossy, Teller, serve_alone};
 use std::alloc::Global;
 use std::str;
 use test_memory::{Refusing, growths};
@@ -100,7 +100,7 @@ fn served_alone(
     let detail = Detail::of("a.c", false, Format::Plain, false);
     let mut out = Vec::new(inner);
     let mut err = Vec::new(inner);
-    let mut teller = Teller::new(&mut err, detail);
+    let mut teller = Teller::new(Lossy::new(&mut err), detail);
     let status = serve_alone(alloc, task, source, schedule, &mut out, &mut teller);
     Served { status, out, err }
 }

@@ -72,17 +72,17 @@ fn read_for<H: Threads + Wait + Clock + Sync>(
     line: &str,
 ) -> Option<(u8, Vec<u8>, Vec<usize>)> {
     let words: Vec<&str> = line.split(' ').collect(alloc).ok()?;
-    let mut told = Told {
+    let told = Told {
         bytes: Vec::new(alloc),
         is_terminal: false,
     };
     let out: Vec<u8> = Vec::new(alloc);
-    let answer = serve_words(rt, alloc, words.as_slice(), &OddFiles {}, out, &mut told);
+    let answer = serve_words(rt, alloc, words.as_slice(), &OddFiles {}, out, told);
     let mut counts = Vec::new(alloc);
     for file in answer.files.as_slice() {
         counts.push(file.bytes.len()).ok()?;
     }
-    Some((answer.status, told.bytes, counts))
+    Some((answer.status, answer.err.bytes, counts))
 }
 
 /// Whether a command line has this answer.

@@ -14,6 +14,8 @@ mod compared;
 #[cfg(test)]
 mod explored;
 #[cfg(test)]
+mod failing;
+#[cfg(test)]
 mod fair;
 #[cfg(test)]
 mod fixed;

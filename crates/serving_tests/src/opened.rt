@@ -1,5 +1,6 @@
 //! The files that are opened for the words of a command line, and the reports about those that are not.
 
+use fault_lines::Tell;
 use serving::Files;
 use std::alloc::Global;
 use std::io;
@@ -68,6 +69,12 @@ impl Write for Told {
 
     fn flush(&mut self) -> io::Result<()> {
         Ok(())
+    }
+}
+
+impl Tell for Told {
+    fn tell(&mut self, bytes: &[u8]) {
+        let _ = self.bytes.write_all(bytes);
     }
 }
 
@@ -415,7 +422,13 @@ pub(crate) fn answer_line<H: Threads + Wait + Clock + Sync, W: Write>(
     told: &mut Told,
 ) -> Option<u8> {
     let words: Vec<&str> = line.split(' ').collect(alloc).ok()?;
-    Some(serve_words(rt, alloc, words.as_slice(), files, out, told).status)
+    let err = Told {
+        bytes: Vec::new(alloc),
+        is_terminal: told.is_terminal,
+    };
+    let answer = serve_words(rt, alloc, words.as_slice(), files, out, err);
+    told.bytes = answer.err.bytes;
+    Some(answer.status)
 }
 
 /// Whether a row has the expected answer.

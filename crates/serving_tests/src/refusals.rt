@@ -2,7 +2,7 @@
 //! standard error. `scripts/faults.py` compares these tables with the document's.
 
 use command::Format;
-use serving::{Detail, Teller};
+use serving::{Detail, Lossy, Teller};
 use std::alloc::{AllocError, Global};
 use std::sync::Wait;
 use std::thread::Threads;
@@ -432,7 +432,7 @@ fn a_long_file_that_is_not_utf8_is_told(rt: HostRuntime) {
 fn is_told_of_run(alloc: Global, fault: RunFault, is_terminal: bool, told: &[u8]) -> bool {
     let mut err = Vec::new(alloc);
     let detail = Detail::of("a.c", false, Format::Plain, is_terminal);
-    let mut teller = Teller::new(&mut err, detail);
+    let mut teller = Teller::new(Lossy::new(&mut err), detail);
     let status = teller.refuse_run(fault);
     status == 4 && err.as_slice() == told
 }

@@ -1,7 +1,7 @@
 //! Runs, orders and listings of sources, and reports about files and words.
 
 use command::{Format, Request, UsageFault};
-use serving::{Detail, Teller, serve, tell_usage, unread_words};
+use serving::{Detail, Lossy, Teller, serve, tell_usage, unread_words};
 use std::alloc::Global;
 use std::fs::File;
 use std::io;
@@ -488,7 +488,7 @@ fn told_unless_opened(rt: &HostRuntime, alloc: Global, file: &str) -> (u8, Vec<u
     let status = match File::open(rt, file) {
         Ok(_) => 0,
         Err(error) => {
-            let mut teller = Teller::new(&mut err, detail);
+            let mut teller = Teller::new(Lossy::new(&mut err), detail);
             teller.not_read(file, &error)
         }
     };

@@ -321,15 +321,15 @@ fn is_so<H: Threads + Wait + Clock + Sync>(rt: &H, alloc: Global, row: &Row) -> 
         source: *source,
         schedule: *schedule,
     };
-    let mut err = Told {
+    let err = Told {
         bytes: Vec::new(alloc),
         is_terminal: true,
     };
     let out: Vec<u8> = Vec::new(alloc);
-    let answer = serve_words(rt, alloc, words.as_slice(), &files, out, &mut err);
+    let answer = serve_words(rt, alloc, words.as_slice(), &files, out, err);
     answer.status == *status
         && is_output(answer.out.as_slice(), *first, *last)
-        && err.bytes.as_slice() == told.as_bytes()
+        && answer.err.bytes.as_slice() == told.as_bytes()
 }
 
 /// The number of the first row with another answer, counted from 0.

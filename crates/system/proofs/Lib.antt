@@ -1,5 +1,7 @@
 -- files that are kept
 pub mod Keeping
+-- bytes that a writer took
+pub mod Recording
 -- the answer to words that make no request
 pub mod Telling
 -- the answer if a file could not be read

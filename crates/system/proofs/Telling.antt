@@ -1,5 +1,5 @@
 -- The answer to words that make no request.
-use Rattle.std.proofs.Common.{◌≡◌, ◌⊎◌, inl, inr, ℕ, List, Option, None, Some, refl, subst}
+use Rattle.std.proofs.Common.{◌≡◌, ◌⊎◌, inl, inr, ℕ, List, Option, None, Some, refl, subst, arith}
 use Rattle.command.specs.Tests.{RefusesJob, WantJob}
 use Rattle.command.specs.declared.request.Asked.{Asked}
 use Rattle.command.specs.declared.request.Job.{Job}
@@ -12,6 +12,7 @@ use Rattle.serving.specs.Usage.{IsHelp, IsWrong}
 use Rattle.system.specs.Kept.{AreReadFrom}
 use Rattle.system.specs.Served.{IsServed}
 use Rattle.system.specs.Tests.{AnswersTests}
+use Rattle.system.specs.Told.{TellsServed, TellsWords}
 use Rattle.system.specs.Words.{AnswersWords, AreReadFor}
 use Rattle.system.specs.declared.kept.KeptFile.{KeptFile}
 
@@ -37,3 +38,17 @@ read_to_serve words job asked contents files is want read = inl (asked, subst (W
 
 pub read_to_test : (words : List (List ℕ)) (job : Job) (tests : Tests) (contents : Contents) (files : List KeptFile) → job ≡ Test tests → WantJob words job → AreReadFrom None contents files → AreReadFor words contents files
 read_to_test words job tests contents files is want read = inr (inl (tests, subst (WantJob words) is want, read))
+
+-- what was told of a request
+pub told_of_job : (words : List (List ℕ)) (job : Job) (asked : Asked) (read : Contents) (old new : Option (List ℕ)) → job ≡ Serve asked → WantJob words job → TellsServed asked read old new → TellsWords words read old new
+told_of_job words job asked read old new is want told = (asked, subst (WantJob words) is want, told)
+
+-- tests are never refused
+not_one : (status : ℕ) → (status ≡ 0) ⊎ (status ≡ 2) ⊎ (status ≡ 4) ⊎ (status ≡ 5) → status ≡ 1 → ⊥
+not_one status (inl zero) one = omega (arith, zero, one)
+not_one status (inr (inl two)) one = omega (arith, two, one)
+not_one status (inr (inr (inl four))) one = omega (arith, four, one)
+not_one status (inr (inr (inr five))) one = omega (arith, five, one)
+
+pub tests_unrefused : {P : Type 0} (all : Contents) (tests : Tests) (read : Contents) (status : ℕ) → AnswersTests all tests read status → status ≡ 1 → P
+tests_unrefused all tests read status answers one = absurd (not_one status answers.others one)

@@ -4,6 +4,8 @@ pub mod Kept
 pub mod Served
 -- the answers to questions in files
 pub mod Tests
+-- reports on standard error
+pub mod Told
 -- the response to words
 pub mod Words
 -- definitions for private functions alone

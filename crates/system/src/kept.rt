@@ -7,7 +7,7 @@ ghost use Rattle.serving.specs.Numbers.{IsSource, other_of};
 ghost use Rattle.system.specs.Kept.{AreKnown, AreReadFrom, IsFileKnown, IsReadAsSource, IsReadFrom, StayKnown, kept_in};
 
 use command::{Against, Format, Request};
-use serving::{Detail, Files, Teller, read_bytes, schedule_of};
+use serving::{Detail, Files, Lossy, Teller, read_bytes, schedule_of};
 use std::alloc::Global;
 use std::io;
 use std::io::{ErrorKind, Read, Write};
@@ -163,12 +163,13 @@ fn keep<F: Files, E: Write>(
     ensures tested { OnOk result (AreReadFrom None (F.contents files.now) kept.old.items
         → AreReadFrom None (F.contents files.now) kept.new.items) }
     ensures status { IfErr result (λ s. (s ≡ 2) ⊎ (s ≡ 4)) }
+    ensures silent { OnOk result (E.contents err.new ≡ E.contents err.old) }
 {
     match read_into(alloc, named, files, kept) {
         Ok(()) => Ok(()),
         Err(error) => {
             let detail = Detail::of(named.name, named.verbose, named.format, false);
-            Err(Teller::new(err, detail).not_read(named.name, &error))
+            Err(Teller::new(Lossy::new(err), detail).not_read(named.name, &error))
         }
     }
 }
@@ -183,6 +184,7 @@ pub(crate) fn keep_files<F: Files, E: Write>(
     ensures known { IfOk result (λ kept. AreKnown request.now (kept_in kept.items)) }
     ensures read { IfOk result (λ kept. AreReadFrom (Some request.now) (F.contents files.now) kept.items) }
     ensures status { IfErr result (λ s. (s ≡ 2) ⊎ (s ≡ 4)) }
+    ensures silent { OnOk result (E.contents err.new ≡ E.contents err.old) }
 {
     let mut kept = Vec::new(alloc);
     match request {

@@ -8,6 +8,7 @@ mod recorder;
 mod sent;
 mod source;
 mod tests;
+mod told;
 mod words;
 
 pub use kept::KeptFile;

@@ -77,11 +77,11 @@ pub(crate) fn answer_question<H: Threads + Wait + Clock + Sync, F: Files>(
     ensures { (words : List (List ℕ)) → Requests words asked.now
         → IsRequestAnswered (F.contents source.now.files.now) source.now.name.now source.now.bytes.now words result.status }
 {
-    let mut told = Notes::new(alloc);
-    let answer = serve_request(rt, alloc, asked, source, Notes::new(alloc), &mut told);
+    let (found, told) = (Notes::new(alloc), Notes::new(alloc));
+    let answer = serve_request(rt, alloc, asked, source, found, told);
     QuestionAnswer {
         status: answer.status,
         has_stuck: answer.out.has_stuck(),
-        notes: answer.out.followed_by(told),
+        notes: answer.out.followed_by(answer.err),
     }
 }

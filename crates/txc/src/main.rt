@@ -4,6 +4,7 @@
 ghost use Rattle.std.specs.Prelude.{◌≡◌, ◌≤◌, [], IfOk, None, Some, map, string_bytes};
 ghost use Rattle.std.specs.Io.KnownBytes.{Appends};
 ghost use Rattle.system.specs.Kept.{kept_in};
+ghost use Rattle.system.specs.Told.{TellsWords};
 ghost use Rattle.system.specs.Words.{AnswersWords, AreReadFor};
 
 use serving::{Files, unread_words};
@@ -22,15 +23,7 @@ fn main(rt: HostRuntime) -> ExitCode {
     let status = match words_given(&rt) {
         Ok(words) => {
             let words = words.as_slice();
-            answer(
-                &rt,
-                rt.alloc(),
-                words,
-                &files,
-                rt.stdout(),
-                &mut rt.stderr(),
-            )
-            .status
+            answer(&rt, rt.alloc(), words, &files, rt.stdout(), rt.stderr()).status
         }
         Err(kind) => unread_words(kind, &mut rt.stderr()),
     };
@@ -64,21 +57,24 @@ fn answer<
     H: Threads + Wait + Clock + Sync,
     F: Files,
     W: Write + Drop,
-    E: Write + IsTerminal + Send,
->(handle: &H, alloc: Global, words: &[String], files: &F, out: W, err: &mut E) -> Answer<W>
+    E: Write + Drop + IsTerminal + Send,
+>(handle: &H, alloc: Global, words: &[String], files: &F, out: W, mut err: E) -> Answer<W, E>
     ensures status { result.status ≤ 5 }
     ensures answer { AnswersWords (F.contents files.now) (map string_bytes words.now) (kept_in result.files.items)
         result.status (Some []) (Some result.printed.bytes) }
     ensures passed { Appends (W.contents out) (W.contents result.out) result.printed.bytes }
     ensures read { AreReadFor (map string_bytes words.now) (F.contents files.now) result.files.items }
+    ensures told { result.status ≡ 1 → TellsWords (map string_bytes words.now) (kept_in result.files.items)
+        (E.contents err) (E.contents result.err) }
 {
     match lent(alloc, words) {
         Ok(words) => serve_words(handle, alloc, words.as_slice(), files, out, err),
         Err(AllocError) => Answer {
-            status: unread_words(ErrorKind::OutOfMemory, err),
+            status: unread_words(ErrorKind::OutOfMemory, &mut err),
             printed: Sent::new(),
             files: Vec::new(alloc),
             out,
+            err,
         },
     }
 }

@@ -12,3 +12,9 @@ returns-in-Err-clause-answer g c = c.tell_fault.ensures.answer _ _ c.in-Err.ensu
 
 pub returns-in-Err-clause-read : goal.returns-in-Err-clause-read
 returns-in-Err-clause-read g c = inr (inr c.tell_fault.ensures.files)
+
+pub returns-in-Ok-clause-told : goal.returns-in-Ok-clause-told
+returns-in-Ok-clause-told g c = c.serve_job.ensures.told _ c.in-Ok.ensures.ok
+
+pub returns-in-Err-clause-told : goal.returns-in-Err-clause-told
+returns-in-Err-clause-told g c = λ one. absurd (c.tell_fault.ensures.unrefused one)

@@ -1,7 +1,12 @@
 //! The words of each fault, by its number.
 
+ghost use Rattle.std.specs.Prelude.{◌≡◌};
+ghost use Rattle.fault_lines.specs.Words.{words_of};
+
 /// The words of a fault. A number that no fault has is `unknown fault`.
-pub fn words(number: u32) -> &'static str {
+pub fn words(number: u32) -> &'static str
+    ensures { result.now ≡ words_of number }
+{
     match number {
         0 => "out of memory",
         1 => "bad character",
